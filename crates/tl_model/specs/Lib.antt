@@ -1,2 +1,5 @@
+pub mod Causes
 pub mod Lines
+pub mod Pictures
+pub mod Seen
 pub mod Volume
