@@ -1,5 +1,7 @@
+pub mod Acks
 pub mod Causes
 pub mod Lines
 pub mod Pictures
 pub mod Seen
+pub mod Trace
 pub mod Volume
