@@ -1,5 +1,6 @@
 pub mod Acks
 pub mod Causes
+pub mod Devices
 pub mod Lines
 pub mod Pictures
 pub mod Seen
