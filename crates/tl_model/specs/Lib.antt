@@ -1,2 +1,4 @@
+pub mod Decimal
 pub mod Lines
 pub mod Volume
+pub mod Words
