@@ -1,8 +1,10 @@
 pub mod Acks
 pub mod Causes
+pub mod Decimal
 pub mod Devices
 pub mod Lines
 pub mod Pictures
 pub mod Seen
 pub mod Trace
 pub mod Volume
+pub mod Words
