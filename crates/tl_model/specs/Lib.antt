@@ -2,6 +2,7 @@ pub mod Acks
 pub mod Causes
 pub mod Decimal
 pub mod Devices
+pub mod Joins
 pub mod Lines
 pub mod Pictures
 pub mod Seen
