@@ -1,15 +1,10 @@
 -- The components of a text, and what they say of two paths.
-use Rattle.std.specs.Prelude.{ℕ, ◌==◌, ◌&&◌, ◌||◌, if◌then◌else◌, Bool, true, false, List, [], ◌∷◌, bytes_eq}
-
--- a byte in front of the first of some components
-abbrev pub onto_first : ℕ → List (List ℕ) → List (List ℕ)
-onto_first b [] = (b ∷ []) ∷ []
-onto_first b (c ∷ cs) = (b ∷ c) ∷ cs
+use Rattle.std.specs.Prelude.{ℕ, ◌==◌, ◌&&◌, ◌||◌, Bool, true, false, List, [], ◌∷◌, bytes_eq}
+use Rattle.std.specs.List.{slice_split}
 
 -- the components of a text: what the byte '/' parts; a text without it has one
 abbrev pub components : List ℕ → List (List ℕ)
-components [] = [] ∷ []
-components (b ∷ text) = if b == 47 then [] ∷ components text else onto_first b (components text)
+components text = slice_split (λ b. b == 47) text
 
 -- what no component may be: empty, "." or ".."
 abbrev pub is_no_component : List ℕ → Bool

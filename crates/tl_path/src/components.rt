@@ -1,5 +1,5 @@
 // The components of a path.
-ghost use Rattle.std.specs.Prelude.{◌≡◌, length};
+ghost use Rattle.std.specs.Prelude.{◌≡◌, ◌+◌, ◌<◌, ◌==◌, [], ◌∷◌, length, take, drop, position, MatchOption};
 ghost use Rattle.std.specs.Iterator.{YieldsFirstRef, item_count};
 ghost use Rattle.tl_path.specs.Components.{components, is_no_component};
 
@@ -30,7 +30,7 @@ impl<'a> Iterator for Components<'a> {
 
     fn next(&mut self) -> Option<&'a [u8]> {
         let rest = self.rest?;
-        match rest.iter().position(|byte| *byte == b'/') {
+        match component_end(rest) {
             Some(end) => {
                 self.rest = Some(&rest[end + 1..]);
                 Some(&rest[..end])
@@ -47,4 +47,19 @@ pub(crate) fn is_no_component(component: &[u8]) -> bool
     ensures { result ≡ is_no_component component.now }
 {
     matches!(component, [] | [b'.'] | [b'.', b'.'])
+}
+
+// Where the first component ends: at the first '/', or with the text where this answers None.
+fn component_end(text: &[u8]) -> Option<usize>
+    ensures { MatchOption result (components text.now ≡ text.now ∷ [])
+        (λ end. (end < length text.now)
+        × (components text.now ≡ take end text.now ∷ components (drop (end + 1) text.now))) }
+{
+    first_slash(text)
+}
+
+fn first_slash(text: &[u8]) -> Option<usize>
+    ensures { result ≡ position (λ b. b == 47) text.now }
+{
+    text.iter().position(|byte| *byte == b'/')
 }

@@ -1,5 +1,6 @@
 // Where a text fails to be a path.
-ghost use Rattle.std.specs.Prelude.{◌≡◌, ◌≤◌, ◌∷◌, length};
+ghost use Rattle.std.specs.Prelude.{◌≡◌, ◌≤◌, ◌<◌, length, position, IfSome, Some};
+ghost use Rattle.tl_path.specs.Bytes.{is_barred};
 ghost use Rattle.tl_path.specs.Path.{earlier, size_fault, byte_fault, component_fault, place_fault};
 
 use crate::bytes::is_barred;
@@ -36,13 +37,21 @@ const LONGEST: usize = 1024;
 const MOST_COMPONENTS: u32 = 64;
 
 // The fault at the lesser place; the first one where both have one place.
-pub(crate) fn earlier(first: Option<PathFault>, second: Option<PathFault>) -> Option<PathFault>
+fn earlier(first: Option<PathFault>, second: Option<PathFault>) -> Option<PathFault>
     ensures { result ≡ earlier first second }
 {
-    match (first, second) {
-        (Some(a), Some(b)) => Some(if a.at <= b.at { a } else { b }),
-        (Some(a), None) => Some(a),
-        (None, b) => b,
+    match first {
+        Some(first) => Some(earlier_of(first, second)),
+        None => second,
+    }
+}
+
+pub(crate) fn earlier_of(first: PathFault, second: Option<PathFault>) -> PathFault
+    ensures { earlier (Some first) second ≡ Some result }
+{
+    match second {
+        Some(second) if second.at < first.at => second,
+        _ => first,
     }
 }
 
@@ -62,8 +71,17 @@ fn byte_fault(text: &[u8]) -> Option<PathFault>
     requires { length text.now ≤ 1024 }
     ensures { result ≡ byte_fault text.now }
 {
-    let at = text.iter().position(|byte| is_barred(*byte))?;
-    Some(PathFault { at: at as u32, kind: PathKind::Byte })
+    match first_barred(text) {
+        Some(at) => Some(PathFault { at: at as u32, kind: PathKind::Byte }),
+        None => None,
+    }
+}
+
+fn first_barred(text: &[u8]) -> Option<usize>
+    ensures place { result ≡ position is_barred text.now }
+    ensures within { IfSome result (λ at. at < length text.now) }
+{
+    text.iter().position(|byte| is_barred(*byte))
 }
 
 fn component_fault(text: &[u8]) -> Option<PathFault>

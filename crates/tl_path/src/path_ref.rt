@@ -1,10 +1,10 @@
 // A checked path that borrows its bytes.
 ghost use Rattle.std.specs.Prelude.{◌≡◌, MatchResult, None, Some};
-ghost use Rattle.tl_path.specs.Path.{IsPath, path_fault, form_fault};
+ghost use Rattle.tl_path.specs.Path.{IsPath, path_fault, form_fault, size_fault};
 ghost use Rattle.tl_path.specs.Components.{components};
 
 use crate::components::Components;
-use crate::fault::{PathFault, PathKind, earlier, place_fault, size_fault};
+use crate::fault::{PathFault, PathKind, earlier_of, place_fault, size_fault};
 use std::marker::Model;
 
 /// A checked path that borrows its text, so that a host is called without memory.
@@ -32,22 +32,8 @@ impl<'a> PathRef<'a> {
         ensures path { MatchResult result (λ path. (path ≡ text.now) × IsPath text.now)
             (λ fault. path_fault text.now ≡ Some fault) }
     {
-        if let Some(fault) = size_fault(text) {
-            return Err(fault);
-        }
-        match std::str::from_utf8(text) {
-            Ok(valid) => match place_fault(text) {
-                None => Ok(PathRef { text: valid }),
-                Some(fault) => Err(fault),
-            },
-            Err(error) => {
-                let fault = PathFault { at: error.valid_up_to() as u32, kind: PathKind::Utf8 };
-                match place_fault(text) {
-                    Some(other) if other.at < fault.at => Err(other),
-                    _ => Err(fault),
-                }
-            }
-        }
+        let text = path_text(text)?;
+        Ok(PathRef { text })
     }
 
     /// A path that is known where it is written: the form of a literal is proved at the call.
@@ -87,5 +73,34 @@ impl<'a> PathRef<'a> {
         ensures { components_left result ≡ components self.now }
     {
         Components::of(self.bytes())
+    }
+}
+
+// The text of a path, or its first fault.
+pub(crate) fn path_text(text: &[u8]) -> Result<&str, PathFault>
+    ensures { MatchResult result (λ path. (path.now ≡ text.now) × IsPath text.now)
+        (λ fault. path_fault text.now ≡ Some fault) }
+{
+    match size_fault(text) {
+        Some(fault) => Err(fault),
+        None => sized_text(text),
+    }
+}
+
+fn sized_text(text: &[u8]) -> Result<&str, PathFault>
+    requires { size_fault text.now ≡ None }
+    ensures { MatchResult result (λ path. (path.now ≡ text.now) × IsPath text.now)
+        (λ fault. path_fault text.now ≡ Some fault) }
+{
+    let form = place_fault(text);
+    match std::str::from_utf8(text) {
+        Ok(valid) => match form {
+            Some(fault) => Err(fault),
+            None => Ok(valid),
+        },
+        Err(error) => {
+            let at = error.valid_up_to() as u32;
+            Err(earlier_of(PathFault { at, kind: PathKind::Utf8 }, form))
+        }
     }
 }
