@@ -1,0 +1,9 @@
+-- What is left of an iterator over components.
+use Rattle.std.specs.Prelude.{ℕ, List, [], Option, Some, None}
+use Rattle.std.specs.Option.{option_copied, option_map_or}
+use Rattle.tl_path.specs.declared.components.Components.{Components}
+use Rattle.tl_path.specs.Components as parts
+
+-- the components that an iterator has still to give
+abbrev pub components_left : Components → List (List ℕ)
+components_left it = option_map_or parts.components (option_copied it.rest) []

@@ -1,0 +1,4 @@
+pub mod Bytes
+pub mod Components
+pub mod Path
+pub mod Inside
