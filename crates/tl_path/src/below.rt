@@ -1,5 +1,6 @@
 // What two paths have in common, by their bytes.
 ghost use Rattle.std.specs.Prelude.{◌≡◌};
+ghost use Rattle.std.specs.List.{list_any};
 ghost use Rattle.tl_path.specs.Components.{is_below, is_touching};
 ghost use Rattle.tl_path.specs.Reserved.{is_reserved};
 
@@ -19,10 +20,14 @@ const RESERVED: [&str; 12] = [
     "texmf-var/tex/generic/config/language.dat.lua",
 ];
 
+#[tactic(auto, using(crate::proofs::Front::is_below_short, crate::proofs::Front::is_below_other, crate::proofs::Front::is_below_same))]
 pub(crate) fn is_below(path: &[u8], dir: &[u8]) -> bool
     ensures { result ≡ is_below path.now dir.now }
 {
-    dir.len() < path.len() && path[dir.len()] == b'/' && &path[..dir.len()] == dir
+    if path.len() <= dir.len() || path[dir.len()] != b'/' {
+        return false;
+    }
+    &path[..dir.len()] == dir
 }
 
 pub(crate) fn is_touching(path: &[u8], other: &[u8]) -> bool
@@ -34,5 +39,11 @@ pub(crate) fn is_touching(path: &[u8], other: &[u8]) -> bool
 pub(crate) fn is_reserved(path: &[u8]) -> bool
     ensures { result ≡ is_reserved path.now }
 {
-    RESERVED.iter().any(|reserved| is_touching(path, reserved.as_bytes()))
+    touches_any(path, &RESERVED)
+}
+
+fn touches_any(path: &[u8], others: &[&str]) -> bool
+    ensures { result ≡ list_any (λ other. is_touching path.now other.now) others.now }
+{
+    others.iter().any(|other| is_touching(path, other.as_bytes()))
 }
