@@ -10,7 +10,7 @@ use Rattle.std.proofs.lemmas.List.Splits.{slice_split_none, slice_split_first}
 use Rattle.std.proofs.lemmas.List.Elements.{All-from_get_or}
 use Rattle.tl_path.specs.Components.{components}
 
-abbrev slash : ℕ → Bool
+abbrev pub slash : ℕ → Bool
 slash b = nat_eq b 47
 
 pub cut_some : (text : List ℕ) (end : ℕ) → position slash text ≡ Some end → components text ≡ take end text ∷ components (drop (end + 1) text)
@@ -32,7 +32,7 @@ pub cut : (text : List ℕ) (r : Option ℕ) → r ≡ position slash text → M
 cut text None is = cut_none text (sym is)
 cut text (Some end) is = ((position-Some slash text end 0 (sym is)).0, cut_some text end (sym is))
 
-abbrev lengths : List (List ℕ) → ℕ
+abbrev pub lengths : List (List ℕ) → ℕ
 lengths cs = sum_by (λ c. length c + 1) cs
 
 lengths-onto_first : (b : ℕ) (cs : List (List ℕ)) → 0 < lengths cs → lengths (onto_first b cs) ≡ lengths cs + 1

@@ -2,13 +2,16 @@
 //! as its bytes.
 #![tactic(auto)]
 
+mod below;
 mod bytes;
 mod components;
+mod error;
 mod fault;
-
+mod path;
 mod path_ref;
 
 pub use components::Components;
+pub use error::{NameError, PathError, TagError};
 pub use fault::{PathFault, PathKind};
-
+pub use path::Path;
 pub use path_ref::PathRef;

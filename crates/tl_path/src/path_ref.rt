@@ -44,6 +44,13 @@ impl<'a> PathRef<'a> {
         PathRef { text }
     }
 
+    pub(crate) fn of(text: &'a str) -> PathRef<'a>
+        requires { IsPath text.now }
+        ensures { result ≡ text.now }
+    {
+        PathRef { text }
+    }
+
     /// The path's bytes.
     pub fn bytes(&self) -> &'a [u8]
         ensures bytes { result.now ≡ self.now }

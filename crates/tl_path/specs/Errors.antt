@@ -1,0 +1,24 @@
+-- What each error says of the text that was read.
+use Rattle.std.specs.Prelude.{◌≡◌, ℕ, true, false, List, Some}
+use Rattle.tl_path.specs.declared.error.PathError.{PathError}
+use Rattle.tl_path.specs.declared.error.PathError.TheVariants.{BadPath, NoMemory}
+use Rattle.tl_path.specs.declared.error.NameError.{NameError}
+use Rattle.tl_path.specs.declared.error.NameError.TheVariants.{BadName, NoMemory as NoNameMemory}
+use Rattle.tl_path.specs.declared.error.TagError.{TagError}
+use Rattle.tl_path.specs.declared.error.TagError.TheVariants.{NotTag, NoMemory as NoTagMemory}
+use Rattle.tl_path.specs.Path.{IsPath, path_fault, fault}
+use Rattle.tl_path.specs.Names.{is_name, is_tag, IsLongestNameFront}
+
+-- the text's first fault; memory is asked for where the text is a path
+abbrev pub IsPathErrorOf : List ℕ → PathError → Type 0
+IsPathErrorOf text (BadPath at kind) = path_fault text ≡ Some (fault kind at)
+IsPathErrorOf text NoMemory = IsPath text
+
+-- the text is no name, and its longest front that a name begins with too has this length
+abbrev pub IsNameErrorOf : List ℕ → NameError → Type 0
+IsNameErrorOf text (BadName at) = (is_name text ≡ false) × IsLongestNameFront text at
+IsNameErrorOf text NoNameMemory = is_name text ≡ true
+
+abbrev pub IsTagErrorOf : List ℕ → TagError → Type 0
+IsTagErrorOf text NotTag = is_tag text ≡ false
+IsTagErrorOf text NoTagMemory = is_tag text ≡ true
