@@ -1,0 +1,123 @@
+-- From what was seen of a host to the run that was made.
+use Rattle.std.proofs.Common.{◌≡◌, ℕ, Bool, true, false, cond, List, [], ◌∷◌, ◌++◌, take, drop, Option, Some, None, refl, sym, ◌∙◌, ap, subst, inl, inr, append_assoc}
+use Rattle.std.proofs.lemmas.List.{append-nil, take-append-drop}
+use Rattle.std.specs.Option.{is_none}
+use Rattle.tl_model.specs.Volume.{Volume, at}
+use Rattle.tl_model.specs.Seen.{Seen, Quiet, Says}
+use Rattle.tl_model.specs.Pictures.{quiet_start, quiet_join}
+use Rattle.tl_model.specs.Acks.{IsPlain, plain-literal}
+use Rattle.tl_model.specs.Trace.{Text, said_by, AreLines, IsFront, Pictures, Trace, Cut, Paused}
+use Rattle.tl_model.specs.Joins.{trace_start, trace_quiet, trace_join, trace_text, trace_paused, paused_longer, paused_cut, cut_join, cut_text}
+use Rattle.tl_tool.specs.declared.ending.Ending.{Ending}
+use Rattle.tl_tool.specs.declared.ending.Ending.TheVariants.{Done, Refused, HostFault, NoMemory}
+use Rattle.tl_tool.specs.declared.refusal.Refusal.{Refusal}
+use Rattle.tl_tool.specs.declared.refusal.Refusal.TheVariants.{Unbuilt}
+use Rattle.tl_tool.specs.declared.refusal.Missing.TheVariants.{Words, Journal, Form}
+use Rattle.tl_tool.specs.Refusals.{refusal_line}
+use Rattle.tl_tool.specs.Run.{Run, IsRun, refused, dump_of, is_dump, database}
+use Rattle.tl_tool.specs.Outcome.{Refuses, IsOutcome, IsSaid, dump_over, run_over}
+use Rattle.tl_tool.specs.Stand.{stand, gate}
+
+-- a refusal's line is plain
+plain-line : (refusal : Refusal) → IsPlain (refusal_line refusal)
+plain-line (Unbuilt Words) = plain-literal _ refl refl
+plain-line (Unbuilt Journal) = plain-literal _ refl refl
+plain-line (Unbuilt Form) = plain-literal _ refl refl
+
+lines-dump_of : (bytes : Option (List ℕ)) → AreLines (dump_of bytes).events
+lines-dump_of None = tt
+lines-dump_of (Some []) = tt
+lines-dump_of (Some (b ∷ bytes)) = (plain-line (Unbuilt Form), tt)
+
+lines-cond : (b : Bool) (r s : Run) → AreLines r.events → AreLines s.events → AreLines (cond b r s).events
+lines-cond true r s first other = first
+lines-cond false r s first other = other
+
+pub lines-run_over : (words : List (List ℕ)) (volume : Volume) → AreLines (run_over words volume).events
+lines-run_over words volume =
+    lines-cond (is_dump words) (dump_over volume) (refused (Unbuilt Words))
+    (lines-cond (is_none (at volume gate)) (dump_of (at volume database)) (refused (Unbuilt Journal)) (lines-dump_of (at volume database)) (plain-line (Unbuilt Journal), tt))
+    (plain-line (Unbuilt Words), tt)
+
+refuses_quiet : (run : Run) (ok : Bool) (first mid last : Seen) → Quiet first mid → Refuses run ok mid last → Refuses run ok first last
+refuses_quiet run ok first mid last quiet near = record {
+  refusal = near.refusal;
+  is = near.is;
+  mid = near.mid;
+  quiet = quiet_join first mid near.mid quiet near.quiet;
+  says = near.says;
+}
+
+-- calls that change nothing in front of a run
+pub outcome_quiet : (run : Run) (ending : Ending) (first mid last : Seen) → Quiet first mid → IsOutcome run ending mid last → IsOutcome run ending first last
+outcome_quiet run Done first mid last quiet near = (near.0, quiet_join first mid last quiet near.1)
+outcome_quiet run (Refused refusal) first mid last quiet near = (near.0, refuses_quiet run true first mid last quiet near.1)
+outcome_quiet run HostFault first mid last quiet (inl near) = inl (quiet_join first mid last quiet near)
+outcome_quiet run HostFault first mid last quiet (inr near) = inr (refuses_quiet run false first mid last quiet near)
+outcome_quiet run NoMemory first mid last quiet near = quiet_join first mid last quiet near
+
+-- a refusal that was said at once
+pub refuses_at_once : (refusal : Refusal) (ok : Bool) (first last : Seen) → Says ok (refusal_line refusal) first last → Refuses (refused refusal) ok first last
+refuses_at_once refusal ok first last says = record { refusal = refusal; is = refl; mid = first; quiet = quiet_start first; says = says }
+
+module _ (first last : Seen) (tree : Volume) (stood : stand first.present.held ≡ Some tree) where
+  quiet_trace : Quiet first last → Trace stand first last tree []
+  quiet_trace quiet = trace_quiet stand first first last tree [] (trace_start stand first tree stood) quiet
+
+  refuses_trace : (run : Run) → Refuses run true first last → Trace stand first last tree run.events
+  refuses_trace run near = subst (λ (r : Run). Trace stand first last tree r.events) (sym near.is)
+      (trace_join stand first near.mid last tree [] (Text (refusal_line near.refusal) ∷ [])
+      (trace_quiet stand first first near.mid tree [] (trace_start stand first tree stood) near.quiet)
+      (trace_text stand near.mid last tree (refusal_line near.refusal) (ap (λ m. stand m.held) near.quiet.present ∙ stood) (plain-line near.refusal) near.says))
+
+  refuses_cut : (run : Run) → Refuses run false first last → Cut stand first last tree run.events
+  refuses_cut run near = subst (λ (r : Run). Cut stand first last tree r.events) (sym near.is)
+      (cut_join stand first near.mid last tree [] (Text (refusal_line near.refusal) ∷ [])
+      (trace_quiet stand first first near.mid tree [] (trace_start stand first tree stood) near.quiet)
+      (cut_text stand false near.mid last tree (refusal_line near.refusal) (ap (λ m. stand m.held) near.quiet.present ∙ stood) (plain-line near.refusal) near.says))
+
+  quiet_paused : (run : Run) → AreLines run.events → Quiet first last → Paused stand first last tree run.events
+  quiet_paused run lines quiet = paused_longer stand first last tree [] run.events lines (trace_paused stand first last tree [] (quiet_trace quiet))
+
+  -- over the tree that the volume stands for
+  pub outcome_run : (run : Run) (ending : Ending) → AreLines run.events → IsOutcome run ending first last → IsRun run ending first last tree
+  outcome_run run Done lines near = (ap (λ (r : Run). r.ending) near.0, subst (λ (r : Run). Trace stand first last tree r.events) (sym near.0) (quiet_trace near.1))
+  outcome_run run (Refused refusal) lines near = (near.0, refuses_trace run near.1)
+  outcome_run run HostFault lines (inl quiet) = paused_cut stand first last tree run.events (quiet_paused run lines quiet)
+  outcome_run run HostFault lines (inr near) = refuses_cut run near
+  outcome_run run NoMemory lines quiet = quiet_paused run lines quiet
+
+-- each picture of a run is a cut of it
+pub run_pictures : (run : Run) (ending : Ending) (first last : Seen) (tree : Volume) → IsRun run ending first last tree → Pictures stand first last tree run.events
+run_pictures run Done first last tree made = made.1.pictures
+run_pictures run (Refused refusal) first last tree made = made.1.pictures
+run_pictures run HostFault first last tree made = made.pictures
+run_pictures run NoMemory first last tree made = made.pictures
+
+nothing_said : (run : Run) (first last : Seen) → Quiet first last → (more : List ℕ) × (last.present.said ≡ first.present.said ++ more) × IsFront more (said_by run.events)
+nothing_said run first last quiet = ([], ap (λ m. m.said) quiet.present ∙ sym (append-nil first.present.said), (said_by run.events, refl))
+
+-- what was said of a run
+pub outcome_said : (run : Run) (ending : Ending) (first last : Seen) → IsOutcome run ending first last → IsSaid run ending first last
+outcome_said run Done first last near = (
+  ap (λ (r : Run). r.ending) near.0,
+  ap (λ m. m.said) near.1.present ∙ sym (append-nil first.present.said) ∙ ap (λ (r : Run). first.present.said ++ said_by r.events) (sym near.0),
+)
+outcome_said run (Refused refusal) first last near = (
+  near.0,
+  near.1.says.whole refl ∙ ap (λ m. m.said ++ refusal_line near.1.refusal) near.1.quiet.present
+      ∙ ap (λ (l : List ℕ). first.present.said ++ l) (sym (append-nil (refusal_line near.1.refusal)))
+      ∙ ap (λ (r : Run). first.present.said ++ said_by r.events) (sym near.1.is),
+)
+outcome_said run HostFault first last (inl quiet) = nothing_said run first last quiet
+outcome_said run HostFault first last (inr near) = (
+  take near.says.count (refusal_line near.refusal),
+  near.says.said ∙ ap (λ m. m.said ++ take near.says.count (refusal_line near.refusal)) near.quiet.present,
+  (
+    drop near.says.count (refusal_line near.refusal) ++ [],
+    ap (λ (r : Run). said_by r.events) near.is
+        ∙ ap (λ (l : List ℕ). l ++ []) (sym (take-append-drop near.says.count (refusal_line near.refusal)))
+        ∙ append_assoc (take near.says.count (refusal_line near.refusal)) (drop near.says.count (refusal_line near.refusal)) [],
+  ),
+)
+outcome_said run NoMemory first last quiet = nothing_said run first last quiet

@@ -1,0 +1,75 @@
+-- The run over a volume is the run over the tree that it stands for.
+use Rattle.std.proofs.Common.{◌≡◌, ℕ, arith, length, Bool, true, false, cond, List, [], ◌∷◌, Option, Some, None, refl, sym, ◌∙◌, ap}
+use Rattle.std.specs.Option.{is_none, unwrap_or, option_map}
+use Rattle.std.specs.Prelude.{not}
+use Rattle.std.specs.Cmp.Lexicographic.{slice_cmp}
+use Rattle.std.specs.Ordering.{nat_cmp}
+use Rattle.std.specs.declared.cmp.Ordering.TheVariants.{Equal}
+use Rattle.std.specs.FinMap as map
+use Rattle.std.specs.FinMap.{slice_cmp-IsAntisymmetric, nat_cmp-IsAntisymmetric}
+use Rattle.tl_model.specs.Volume.{Name, Volume, at}
+use Rattle.tl_tool.specs.Run.{Run, database, dump_of, run_of, run_without, is_dump, refused}
+use Rattle.tl_tool.specs.Outcome.{dump_over, run_over}
+use Rattle.tl_tool.specs.Stand.{stand, tree_of, is_journal, gate}
+use Rattle.tl_tool.specs.declared.ending.Ending.TheVariants.{Done}
+use Rattle.tl_tool.specs.declared.refusal.Refusal.TheVariants.{Unbuilt}
+use Rattle.tl_tool.specs.declared.refusal.Missing.TheVariants.{Words, Journal, Form}
+
+-- the database stands in the tree as in the volume
+at-tree_of : (volume : Volume) → at (tree_of volume) database ≡ at volume database
+at-tree_of volume =
+    let keep : Name → Bool = λ name. not (is_journal name) in
+    let same : (x : Name) → slice_cmp nat_cmp database x ≡ Equal → keep x ≡ keep database =
+    λ x equal. ap (λ (n : Name). not (is_journal n)) (sym (slice_cmp-IsAntisymmetric nat_cmp-IsAntisymmetric database x equal)) in
+    map.get-retain_keys volume keep database same
+
+-- over the tree that a volume stands for
+pub dump_over-tree : (volume tree : Volume) → stand volume ≡ Some tree → dump_over volume ≡ dump_of (at tree database)
+unfolding stand
+dump_over-tree volume tree is = by (is_none (at volume gate)) is
+  where
+    by : (b : Bool) → cond b (Some (tree_of volume)) None ≡ Some tree → cond b (dump_of (at volume database)) (refused (Unbuilt Journal)) ≡ dump_of (at tree database)
+    by true same = ap dump_of (sym (at-tree_of volume) ∙ ap (λ (o : Option Volume). at (unwrap_or o tree) database) same)
+    by false same = absurd (cc)
+
+pub run_over-tree : (words : List (List ℕ)) (volume tree : Volume) → stand volume ≡ Some tree → run_over words volume ≡ run_of words tree
+run_over-tree words volume tree is = ap (λ (run : Run). cond (is_dump words) run (refused (Unbuilt Words))) (dump_over-tree volume tree is)
+
+-- over a volume that stands for none
+dump_over-none : (volume : Volume) → stand volume ≡ None → dump_over volume ≡ refused (Unbuilt Journal)
+unfolding stand
+dump_over-none volume is = by (is_none (at volume gate)) is
+  where
+    by : (b : Bool) → cond b (Some (tree_of volume)) None ≡ None → cond b (dump_of (at volume database)) (refused (Unbuilt Journal)) ≡ refused (Unbuilt Journal)
+    by true same = absurd (cc)
+    by false same = refl
+
+pub run_over-none : (words : List (List ℕ)) (volume : Volume) → stand volume ≡ None → run_over words volume ≡ run_without words
+run_over-none words volume is = ap (λ (run : Run). cond (is_dump words) run (refused (Unbuilt Words))) (dump_over-none volume is)
+
+-- a database without bytes has no entry to say
+pub dump_of-empty : (o : Option (List ℕ)) → unwrap_or (option_map length o) 0 ≡ 0 → dump_of o ≡ record { events = []; ending = Done }
+dump_of-empty None none = refl
+dump_of-empty (Some []) none = refl
+dump_of-empty (Some (b ∷ bytes)) none = absurd (omega arith)
+
+-- a database that has bytes
+pub dump_of-full : (o : Option (List ℕ)) → (unwrap_or (option_map length o) 0 ≡ 0 → ⊥) → dump_of o ≡ refused (Unbuilt Form)
+dump_of-full None some = absurd (some refl)
+dump_of-full (Some []) some = absurd (some refl)
+dump_of-full (Some (b ∷ bytes)) some = refl
+
+-- a volume without a gate, and one that has a gate
+pub dump_over-shut : (volume : Volume) → None ≡ option_map length (at volume gate) → dump_over volume ≡ dump_of (at volume database)
+dump_over-shut volume is = by (at volume gate) is
+  where
+    by : (o : Option (List ℕ)) → None ≡ option_map length o → cond (is_none o) (dump_of (at volume database)) (refused (Unbuilt Journal)) ≡ dump_of (at volume database)
+    by None same = refl
+    by (Some bytes) same = absurd (cc)
+
+pub dump_over-gate : (volume : Volume) (size : ℕ) → Some size ≡ option_map length (at volume gate) → dump_over volume ≡ refused (Unbuilt Journal)
+dump_over-gate volume size is = by (at volume gate) is
+  where
+    by : (o : Option (List ℕ)) → Some size ≡ option_map length o → cond (is_none o) (dump_of (at volume database)) (refused (Unbuilt Journal)) ≡ refused (Unbuilt Journal)
+    by None same = absurd (cc)
+    by (Some bytes) same = refl

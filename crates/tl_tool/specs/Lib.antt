@@ -1,0 +1,5 @@
+pub mod Outcome
+pub mod Refusals
+pub mod Run
+pub mod Stand
+pub mod Status

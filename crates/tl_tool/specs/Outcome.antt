@@ -1,0 +1,43 @@
+-- What was seen of a host over a run that says nothing but a refusal.
+use Rattle.std.specs.Prelude.{◌≡◌, ◌⊎◌, ℕ, Bool, true, false, is_none, if◌then◌else◌, List, [], ◌++◌}
+use Rattle.tl_model.specs.Volume.{Volume, at}
+use Rattle.tl_model.specs.Seen.{Seen, Quiet, Says}
+use Rattle.tl_model.specs.Trace.{said_by, IsFront}
+use Rattle.tl_tool.specs.declared.ending.Ending.{Ending}
+use Rattle.tl_tool.specs.declared.ending.Ending.TheVariants.{Done, Refused, HostFault, NoMemory}
+use Rattle.tl_tool.specs.declared.refusal.Refusal.{Refusal}
+use Rattle.tl_tool.specs.declared.refusal.Refusal.TheVariants.{Unbuilt}
+use Rattle.tl_tool.specs.declared.refusal.Missing.TheVariants.{Words, Journal}
+use Rattle.tl_tool.specs.Refusals.{refusal_line}
+use Rattle.tl_tool.specs.Run.{Run, refused, dump_of, database, is_dump}
+use Rattle.tl_tool.specs.Stand.{gate}
+
+-- calls that change nothing, and then the line of a refusal, of which a front is said where a call fails
+pub record Refuses (run : Run) (ok : Bool) (first last : Seen) : Type 0 where
+  pub refusal : Refusal
+  pub is : run ≡ refused refusal
+  pub mid : Seen
+  pub quiet : Quiet first mid
+  pub says : Says ok (refusal_line refusal) mid last
+
+-- how a run without steps and texts but a refusal's line went
+abbrev pub IsOutcome : Run → Ending → Seen → Seen → Type 0
+IsOutcome run Done first last = (run ≡ record { events = []; ending = Done }) × Quiet first last
+IsOutcome run (Refused refusal) first last = (run.ending ≡ Refused refusal) × Refuses run true first last
+IsOutcome run HostFault first last = Quiet first last ⊎ Refuses run false first last
+IsOutcome run NoMemory first last = Quiet first last
+
+-- the run of `dump-tlpdb` over a volume
+abbrev pub dump_over : Volume → Run
+dump_over volume = if is_none (at volume gate) then dump_of (at volume database) else refused (Unbuilt Journal)
+
+-- the run of a command over a volume
+abbrev pub run_over : List (List ℕ) → Volume → Run
+run_over words volume = if is_dump words then dump_over volume else refused (Unbuilt Words)
+
+-- what was said of a run that makes no step: all of it with the run's ending, or a front of it
+abbrev pub IsSaid : Run → Ending → Seen → Seen → Type 0
+IsSaid run Done first last = (run.ending ≡ Done) × (last.present.said ≡ first.present.said ++ said_by run.events)
+IsSaid run (Refused refusal) first last = (run.ending ≡ Refused refusal) × (last.present.said ≡ first.present.said ++ said_by run.events)
+IsSaid run HostFault first last = (more : List ℕ) × (last.present.said ≡ first.present.said ++ more) × IsFront more (said_by run.events)
+IsSaid run NoMemory first last = (more : List ℕ) × (last.present.said ≡ first.present.said ++ more) × IsFront more (said_by run.events)

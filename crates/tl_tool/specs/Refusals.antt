@@ -1,0 +1,20 @@
+-- The line that says a refusal.
+use Rattle.std.specs.Prelude.{ℕ, List, [], ◌∷◌, ◌++◌, codes}
+use Rattle.tl_tool.specs.declared.refusal.Refusal.{Refusal}
+use Rattle.tl_tool.specs.declared.refusal.Refusal.TheVariants.{Unbuilt}
+use Rattle.tl_tool.specs.declared.refusal.Missing.{Missing}
+use Rattle.tl_tool.specs.declared.refusal.Missing.TheVariants.{Words, Journal, Form}
+
+-- what isn't built yet, by its name
+abbrev pub missing_name : Missing → List ℕ
+missing_name Words = codes "Words"
+missing_name Journal = codes "Journal"
+missing_name Form = codes "Form"
+
+-- a refusal without its line end: its name, and each field with its value
+abbrev pub refusal_text : Refusal → List ℕ
+refusal_text (Unbuilt what) = codes "tlmgr: Unbuilt what=" ++ missing_name what
+
+-- the line that is said
+abbrev pub refusal_line : Refusal → List ℕ
+refusal_line refusal = refusal_text refusal ++ 10 ∷ []

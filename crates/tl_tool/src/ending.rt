@@ -1,0 +1,57 @@
+ghost use Rattle.std.specs.Prelude.{◌≡◌, ℕ};
+ghost use Rattle.tl_tool.specs.Status.{status_of};
+
+use crate::refusal::Refusal;
+
+/// How a command ended.
+#[derive(Debug, Drop, PartialEq, Eq)]
+pub enum Ending {
+    /// It was carried out.
+    Done,
+    /// It was refused, and the refusal was said.
+    Refused(Refusal),
+    /// A call of the host failed.
+    HostFault,
+    /// Memory ran out.
+    NoMemory,
+}
+
+impl Ending {
+    /// The status that the program ends with: 0 where the command was carried out, 1 where it was refused, 3 after a
+    /// fault, 4 for want of memory.
+    pub fn status(&self) -> u8
+        ensures { result ≡ status_of self.now }
+    {
+        match self {
+            Ending::Done => 0,
+            Ending::Refused(_) => 1,
+            Ending::HostFault => 3,
+            Ending::NoMemory => 4,
+        }
+    }
+}
+
+#[cfg(test)]
+mod tests {
+    use super::*;
+    use crate::refusal::Missing;
+    use std::test::Fail;
+
+    #[test]
+    fn each_ending_has_its_status(rt: HostRuntime) {
+        assert_eq!(rt; Ending::Done.status(), 0);
+        assert_eq!(rt;
+            Ending::Refused(Refusal::Unbuilt(Missing::Form)).status(),
+            1
+        );
+        assert_eq!(rt; Ending::HostFault.status(), 3);
+        assert_eq!(rt; Ending::NoMemory.status(), 4);
+    }
+
+    #[test]
+    fn a_refusal_prints_its_name_and_fields(rt: HostRuntime) -> Result<(), Fail> {
+        let line = Refusal::Unbuilt(Missing::Journal).to_string(rt.alloc())?;
+        assert_eq!(rt; line.as_str(), "tlmgr: Unbuilt what=Journal");
+        Ok(())
+    }
+}

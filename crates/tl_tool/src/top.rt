@@ -1,0 +1,107 @@
+ghost use Rattle.std.specs.Prelude.{◌≡◌, ◌≤◌, ℕ, List, Some, None, map, IfOk, string_bytes};
+ghost use Rattle.tl_model.specs.Volume.{Volume, at};
+ghost use Rattle.tl_model.specs.Seen.{Told, Could, moment};
+ghost use Rattle.tl_model.specs.Causes.{Rose};
+ghost use Rattle.tl_model.specs.Trace.{IsCut};
+ghost use Rattle.tl_tool.specs.Refusals.{refusal_line};
+ghost use Rattle.tl_tool.specs.Run.{KeepsNames, IsRun, run_of, run_without, dump_of, refused, database};
+ghost use Rattle.tl_tool.specs.Outcome.{IsOutcome, IsSaid, dump_over, run_over};
+ghost use Rattle.tl_tool.specs.Stand.{stand};
+ghost use Rattle.tl_tool.specs.Status.{IsFault};
+
+use crate::database::{database_size, gate_size};
+use crate::ending::Ending;
+use crate::refusal::{Missing, Refusal};
+use crate::words::is_dump;
+use std::alloc::{AllocError, Global};
+use tl_host::Host;
+
+// The line that says a refusal.
+fn line_of(alloc: Global, refusal: &Refusal) -> Result<String, AllocError>
+    ensures { IfOk result (λ line. string_bytes line ≡ refusal_line refusal.now) }
+{
+    format!(in alloc; "{refusal}\n")
+}
+
+// Says a refusal, and ends with it.
+fn refuse<H: Host>(alloc: Global, refusal: Refusal, host: &mut H) -> Ending
+    ensures outcome { Told H.tells (IsOutcome (refused refusal) result (H.seen host.old) (H.seen host.new)) }
+    ensures cause { IsFault result → Rose (H.seen host.old).faults (H.seen host.new).faults }
+    ensures later { (H.seen host.old).faults ≤ (H.seen host.new).faults }
+{
+    match line_of(alloc, &refusal) {
+        Ok(line) => match host.say(line.as_bytes()) {
+            Ok(()) => Ending::Refused(refusal),
+            Err(_) => Ending::HostFault,
+        },
+        Err(_) => Ending::NoMemory,
+    }
+}
+
+// Says the database of a volume without a journal.
+fn dump_database<H: Host>(alloc: Global, host: &mut H) -> Ending
+    ensures outcome { Told H.tells (IsOutcome (dump_of (at (H.seen host.old).present.held database)) result
+        (H.seen host.old) (H.seen host.new)) }
+    ensures cause { IsFault result → Rose (H.seen host.old).faults (H.seen host.new).faults }
+    ensures later { (H.seen host.old).faults ≤ (H.seen host.new).faults }
+{
+    match database_size(host) {
+        Ok(size) => {
+            if size.unwrap_or(0) == 0 {
+                Ending::Done
+            } else {
+                refuse(alloc, Refusal::Unbuilt(Missing::Form), host)
+            }
+        }
+        Err(_) => Ending::HostFault,
+    }
+}
+
+// Carries out `dump-tlpdb`.
+fn dump<H: Host>(alloc: Global, host: &mut H) -> Ending
+    ensures outcome { Told H.tells (IsOutcome (dump_over (H.seen host.old).present.held) result
+        (H.seen host.old) (H.seen host.new)) }
+    ensures cause { IsFault result → Rose (H.seen host.old).faults (H.seen host.new).faults }
+{
+    match gate_size(host) {
+        Ok(None) => dump_database(alloc, host),
+        Ok(Some(_)) => refuse(alloc, Refusal::Unbuilt(Missing::Journal), host),
+        Err(_) => Ending::HostFault,
+    }
+}
+
+// Reads the words and carries the command out.
+fn perform<H: Host>(alloc: Global, words: &[Vec<u8>], host: &mut H) -> Ending
+    ensures outcome { Told H.tells (IsOutcome (run_over (map (λ w. w.items) words.now) (H.seen host.old).present.held) result
+        (H.seen host.old) (H.seen host.new)) }
+    ensures cause { IsFault result → Rose (H.seen host.old).faults (H.seen host.new).faults }
+{
+    if is_dump(words) {
+        dump(alloc, host)
+    } else {
+        refuse(alloc, Refusal::Unbuilt(Missing::Words), host)
+    }
+}
+
+/// Carries a command out over a volume, and hands the volume back with every ending.
+///
+/// The words are the program's, the root first. Where the host tells what it holds and the volume stands for a tree, what
+/// was seen of it is the run of the words over that tree: whole where the command was carried out or refused, cut off after
+/// a front of it by a fault, given up for want of memory; and each picture that a stop may leave is a cut of that run. A
+/// volume that stands for no tree is refused. No name is changed or touched. A fault is answered only where the host's
+/// faults rose.
+pub fn texlive<H: Host>(alloc: Global, words: &[Vec<u8>], host: H) -> (Ending, H)
+    ensures run { Told H.tells ((tree : Volume) → stand (H.seen host).present.held ≡ Some tree →
+        IsRun (run_of (map (λ w. w.items) words.now) tree) result.0 (H.seen host) (H.seen result.1) tree) }
+    ensures pictures { Told H.tells ((tree : Volume) → stand (H.seen host).present.held ≡ Some tree →
+        (image : Volume) (said : List ℕ) → Could (H.seen result.1) (moment (H.seen host)) image said →
+        IsCut stand (H.seen host) (run_of (map (λ w. w.items) words.now) tree).events tree image said) }
+    ensures without { Told H.tells (stand (H.seen host).present.held ≡ None →
+        IsSaid (run_without (map (λ w. w.items) words.now)) result.0 (H.seen host) (H.seen result.1)) }
+    ensures names { Told H.tells (KeepsNames (H.seen host) (H.seen result.1)) }
+    ensures cause { IsFault result.0 → Rose (H.seen host).faults (H.seen result.1).faults }
+{
+    let mut host = host;
+    let ending = perform(alloc, words, &mut host);
+    (ending, host)
+}
