@@ -1,0 +1,1 @@
+-- Runs of bytes between those that end them.

@@ -1,0 +1,8 @@
+//! A stretch of a text.
+
+/// The bytes of a text from `start` on, up to `end`, which is no longer one of them.
+#[derive(Clone, Copy, Debug, PartialEq, Eq)]
+pub struct Span {
+    pub start: u32,
+    pub end: u32,
+}
