@@ -4,6 +4,7 @@ ghost use Rattle.tl_model.specs.Lines as the_lines;
 ghost use Rattle.tl_model.specs.Words as the_words;
 ghost use Rattle.tl_text.specs.Spans.{stretches, AreRising, line_spans, run_spans};
 ghost use Rattle.tl_text.specs.Quotes.{IsQuoteFault};
+ghost use Rattle.tl_text.specs.Quotes as the_quotes;
 
 use std::alloc::{AllocError, Global};
 use thiserror::Error;
@@ -18,6 +19,17 @@ pub enum QuoteError {
     BadQuote { at: u32 },
     #[error("out of memory")]
     NoMemory,
+}
+
+impl From<AllocError> for QuoteError {
+    ghost use Rattle.std.specs.Prelude.{◌≡◌};
+    ghost use Rattle.tl_text.specs.declared.words.QuoteError.TheVariants.{NoMemory};
+
+    ghost from_gives = { λ _ e. e ≡ NoMemory };
+
+    fn from(_error: AllocError) -> QuoteError {
+        QuoteError::NoMemory
+    }
 }
 
 fn push_run(spans: &mut Vec<Span>, start: usize, end: usize) -> Result<(), AllocError>
@@ -79,6 +91,16 @@ pub fn fields(alloc: Global, line: &[u8]) -> Result<Vec<Span>, AllocError>
     Ok(spans)
 }
 
+fn quote_after(quote: Option<u32>, b: u8, at: u32) -> Option<u32>
+    ensures { result ≡ the_quotes.quote_after quote b at }
+{
+    match quote {
+        Some(_) if b == b'"' => None,
+        None if b == b'"' => Some(at),
+        _ => quote,
+    }
+}
+
 /// The spans of the maximal runs of bytes that aren't blanks, where blanks in a quoted stretch don't count.
 /// A double quote begins a stretch up to the next one. `BadQuote` where the double quote at that place has no partner.
 pub fn quoted_words(alloc: Global, line: &[u8]) -> Result<Vec<Span>, QuoteError>
@@ -92,16 +114,15 @@ pub fn quoted_words(alloc: Global, line: &[u8]) -> Result<Vec<Span>, QuoteError>
     let mut start = 0;
     let mut quote = None;
     for (i, b) in line.iter().enumerate() {
-        if *b == b'"' {
-            quote = if quote.is_none() { Some(i as u32) } else { None };
-        } else if quote.is_none() && is_blank(*b) {
-            push_run(&mut spans, start, i).map_err(|_| QuoteError::NoMemory)?;
+        if quote.is_none() && is_blank(*b) {
+            push_run(&mut spans, start, i)?;
             start = i + 1;
         }
+        quote = quote_after(quote, *b, i as u32);
     }
     if let Some(at) = quote {
         return Err(QuoteError::BadQuote { at });
     }
-    push_run(&mut spans, start, line.len()).map_err(|_| QuoteError::NoMemory)?;
+    push_run(&mut spans, start, line.len())?;
     Ok(spans)
 }
