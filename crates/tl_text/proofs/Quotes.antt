@@ -30,8 +30,8 @@ some_same : {a b : ℕ} → Some a ≡ Some b → a ≡ b
 some_same {a} e = ap (λ (o : Option ℕ). unwrap_or o a) e
 
 pub is_some-quote_after : (quote : Option ℕ) (b at : ℕ) → is_some (quote_after quote b at) ≡ cond (b == 34) (not (is_some quote)) (is_some quote)
-is_some-quote_after None b at = elim (cases_Bool (b == 34)) [ | inl e ↦ rw e refl | inr e ↦ rw e refl ]
-is_some-quote_after (Some quote) b at = elim (cases_Bool (b == 34)) [ | inl e ↦ rw e refl | inr e ↦ rw e refl ]
+is_some-quote_after None b at = elim (cases_Bool (b == 34)) [ inl e ↦ rw e refl | inr e ↦ rw e refl ]
+is_some-quote_after (Some quote) b at = elim (cases_Bool (b == 34)) [ inl e ↦ rw e refl | inr e ↦ rw e refl ]
 
 eq_from_test : (b : ℕ) → (b == 34) ≡ true → b ≡ 34
 eq_from_test b e = grind arith
@@ -41,7 +41,7 @@ opens line i within e closed = record {
   before = omega arith;
   quote = slice_get-get_or line i 0 within ∙ ap (λ (b : ℕ). Some b) (eq_from_test (get_or line i 0) e);
   closed = closed;
-  none = subst (λ (run : List ℕ). All (λ b. (b == 34) ≡ false) run) (sym (no_run line (i + 1))) (All-nil (λ b. (b == 34) ≡ false))
+  none = subst (λ (run : List ℕ). All (λ b. (b == 34) ≡ false) run) (sym (no_run line (i + 1))) (All-nil (λ b. (b == 34) ≡ false));
 }
 
 stays : (line : List ℕ) (at i : ℕ) → i < length line → (get_or line i 0 == 34) ≡ false → IsOpenQuote line at i → IsOpenQuote line at (i + 1)
@@ -49,7 +49,7 @@ stays line at i within e here = record {
   before = omega (arith, here.before);
   quote = here.quote;
   closed = here.closed;
-  none = subst (λ (run : List ℕ). All (λ b. (b == 34) ≡ false) run) (sym (between_more line (at + 1) i 0 (omega (arith, here.before)) within)) (All-push (λ b. (b == 34) ≡ false) _ (get_or line i 0) here.none e)
+  none = subst (λ (run : List ℕ). All (λ b. (b == 34) ≡ false) run) (sym (between_more line (at + 1) i 0 (omega (arith, here.before)) within)) (All-push (λ b. (b == 34) ≡ false) _ (get_or line i 0) here.none e);
 }
 
 told_after : (line : List ℕ) (quote : Option ℕ) (i : ℕ) → i < length line → QuotesSoFar line quote i
@@ -65,8 +65,8 @@ told_after line (Some quote) i within here (inr e) at is =
 pub quotes_more : (line : List ℕ) (quote : Option ℕ) (i : ℕ) → i < length line → QuotesSoFar line quote i → QuotesSoFar line (quote_after quote (get_or line i 0) i) (i + 1)
 quotes_more line quote i within here = record {
   state = ap (is_open_after false) (take_more line i 0 within) ∙ is_open_after-append false (take i line) (get_or line i 0 ∷ [])
-    ∙ ap (λ (o : Bool). cond (get_or line i 0 == 34) (not o) o) here.state ∙ sym (is_some-quote_after quote (get_or line i 0) i);
-  told = told_after line quote i within here (cases_Bool (get_or line i 0 == 34))
+      ∙ ap (λ (o : Bool). cond (get_or line i 0 == 34) (not o) o) here.state ∙ sym (is_some-quote_after quote (get_or line i 0) i);
+  told = told_after line quote i within here (cases_Bool (get_or line i 0 == 34));
 }
 
 pub lone_quote : (line : List ℕ) (quote : Option ℕ) (i at : ℕ) → i ≡ length line → QuotesSoFar line quote i → quote ≡ Some at → IsLoneQuote line at

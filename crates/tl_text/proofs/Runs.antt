@@ -64,13 +64,13 @@ none_so_far = record { within = All-nil (IsWithin 0); apart = λ i j d lt within
 pub later : (spans : List Span) (place next : ℕ) → place ≤ next → SpansSoFar spans place → SpansSoFar spans next
 later spans place next order so_far = record {
   within = All-weaker (IsWithin place) (IsWithin next) (λ span is. (is.0, omega (arith, is.1))) spans so_far.within;
-  apart = so_far.apart
+  apart = so_far.apart;
 }
 
 pub push_so_far : (spans : List Span) (start end : ℕ) → start ≤ end → SpansSoFar spans start → SpansSoFar (spans ++ record { start = start; end = end } ∷ []) end
 push_so_far spans start end order so_far = record {
   within = All-push (IsWithin end) spans (record { start = start; end = end }) (later spans start end order so_far).within (order, omega arith);
-  apart = all_pairs_push (λ (before after : Span). before.end ≤ after.start) spans (record { start = start; end = end }) so_far.apart (λ k d lt. (so_far.within k d lt).1)
+  apart = all_pairs_push (λ (before after : Span). before.end ≤ after.start) spans (record { start = start; end = end }) so_far.apart (λ k d lt. (so_far.within k d lt).1);
 }
 
 pub run_so_far : (spans : List Span) (start end : ℕ) → start ≤ end → SpansSoFar spans start → SpansSoFar (spans ++ run_spans start end) end
@@ -94,9 +94,9 @@ no_bytes (b ∷ run) none = absurd (omega arith)
 pub stretches-run : (text : List ℕ) (start i : ℕ) (parts : List (List ℕ)) → i ≤ length text → stretches text (run_spans start i) ++ filter is_full parts ≡ filter is_full (slice_range text start i ∷ parts)
 stretches-run text start i parts within = elim (cases_Bool (nat_lt start i)) [
   | inl e ↦ let less : start < i = ltb-true start i e in
-    let some : 0 < length (slice_range text start i) = omega (arith, run_length text start i within) in rw (e, full_run _ some) refl
+      let some : 0 < length (slice_range text start i) = omega (arith, run_length text start i within) in rw (e, full_run _ some) refl
   | inr e ↦ let least : i ≤ start = ltb-false start i e in
-    let none : length (slice_range text start i) ≡ 0 = omega (arith, run_length text start i within) in rw (e, no_bytes _ none) refl
+      let none : length (slice_range text start i) ≡ 0 = omega (arith, run_length text start i within) in rw (e, no_bytes _ none) refl
 ]
 
 -- one more list of stretches
@@ -123,7 +123,7 @@ pub words_more : (F G : List ℕ → List (List ℕ)) (line : List ℕ) (spans :
 words_more F G line spans start i whole within steps here = record {
   order = omega (arith, here.order);
   so_far = here.so_far;
-  words = ap (λ (parts : List (List ℕ)). stretches line spans ++ filter is_full parts) (sym (glue_more F G line start i here.order within steps)) ∙ here.words
+  words = ap (λ (parts : List (List ℕ)). stretches line spans ++ filter is_full parts) (sym (glue_more F G line start i here.order within steps)) ∙ here.words;
 }
 
 pub words_cut : (F G : List ℕ → List (List ℕ)) (line : List ℕ) (spans : List Span) (start i : ℕ) (whole : List (List ℕ)) → i < length line
@@ -133,17 +133,18 @@ words_cut F G line spans start i whole within steps here = let next : List (List
   order = omega arith;
   so_far = later (spans ++ run_spans start i) i (i + 1) (omega arith) (run_so_far spans start i here.order here.so_far);
   words = more_stretches line spans (run_spans start i) (filter is_full (slice_range line start i ∷ next)) (filter is_full next) whole (stretches-run line start i next (omega arith))
-    (ap (λ (parts : List (List ℕ)). stretches line spans ++ filter is_full parts) (sym (glue_cut F G line start i within steps)) ∙ here.words)
+      (ap (λ (parts : List (List ℕ)). stretches line spans ++ filter is_full parts) (sym (glue_cut F G line start i within steps)) ∙ here.words);
 }
 
 pub words_end : (line : List ℕ) (spans : List Span) (start : ℕ) (whole : List (List ℕ)) → WordsSoFar line spans start (length line) ([] ∷ []) whole
     → (stretches line (spans ++ run_spans start (length line)) ≡ whole) × AreRising (length line) (spans ++ run_spans start (length line))
 words_end line spans start whole here =
     let rising : SpansSoFar (spans ++ run_spans start (length line)) (length line) = run_so_far spans start (length line) here.order here.so_far in
-    let run : List ℕ = slice_range line start (length line) in
-    (sym (append-nil _) ∙ more_stretches line spans (run_spans start (length line)) (filter is_full (run ∷ [])) [] whole (stretches-run line start (length line) [] (omega arith))
-      (ap (λ (parts : List (List ℕ)). stretches line spans ++ filter is_full parts) (sym (glue-cut run [])) ∙ here.words)
-    , record { within = rising.within; apart = rising.apart })
+    let run : List ℕ = slice_range line start (length line) in (
+      sym (append-nil _) ∙ more_stretches line spans (run_spans start (length line)) (filter is_full (run ∷ [])) [] whole (stretches-run line start (length line) [] (omega arith))
+          (ap (λ (parts : List (List ℕ)). stretches line spans ++ filter is_full parts) (sym (glue-cut run [])) ∙ here.words),
+      record { within = rising.within; apart = rising.apart },
+    )
 
 pub words_done : (F : List ℕ → List (List ℕ)) (line : List ℕ) (spans : List Span) (start i : ℕ) (whole : List (List ℕ)) → F [] ≡ [] ∷ [] → i ≡ length line
     → WordsSoFar line spans start i (F (drop i line)) whole
@@ -168,12 +169,12 @@ lines_step_end b rest e = ap (λ t. cond t ([] ∷ lines rest) (onto_first b (li
 pub lines_more : (text : List ℕ) (spans : List Span) (start i : ℕ) → i < length text → (get_or text i 0 == 10) ≡ false → LinesSoFar text spans start i → LinesSoFar text spans start (i + 1)
 lines_more text spans start i within apart here =
     let same : glue (slice_range text start i) (lines (drop i text)) ≡ glue (slice_range text start (i + 1)) (lines (drop (i + 1) text)) =
-      glue_more lines lines text start i here.order within (lines_step_on (get_or text i 0) (drop (i + 1) text) apart) in
+    glue_more lines lines text start i here.order within (lines_step_on (get_or text i 0) (drop (i + 1) text) apart) in
     record {
       order = omega (arith, here.order);
       so_far = here.so_far;
       texts = ap (λ (parts : List (List ℕ)). stretches text spans ++ parts) (sym same) ∙ here.texts;
-      places = ap (λ (parts : List (List ℕ)). spans ++ line_spans start parts) (sym same) ∙ here.places
+      places = ap (λ (parts : List (List ℕ)). spans ++ line_spans start parts) (sym same) ∙ here.places;
     }
 
 span_from : (start len end : ℕ) (others : List Span) → start + len ≡ end → record { start = start; end = start + len } ∷ others ≡ record { start = start; end = end } ∷ others
@@ -191,16 +192,16 @@ pub lines_cut : (text : List ℕ) (spans : List Span) (start i : ℕ) → i < le
 lines_cut text spans start i within ends here =
     let next : List (List ℕ) = glue (slice_range text (i + 1) (i + 1)) (lines (drop (i + 1) text)) in
     let same : glue (slice_range text start i) (lines (drop i text)) ≡ slice_range text start i ∷ next =
-      glue_cut lines lines text start i within (lines_step_end (get_or text i 0) (drop (i + 1) text) ends) in
+    glue_cut lines lines text start i within (lines_step_end (get_or text i 0) (drop (i + 1) text) ends) in
     let span : Span = record { start = start; end = i } in
     record {
       order = omega arith;
       so_far = later (spans ++ span ∷ []) i (i + 1) (omega arith) (push_so_far spans start i here.order here.so_far);
       texts = more_stretches text spans (span ∷ []) (slice_range text start i ∷ next) next (lines text) refl
-        (ap (λ (parts : List (List ℕ)). stretches text spans ++ parts) (sym same) ∙ here.texts);
+          (ap (λ (parts : List (List ℕ)). stretches text spans ++ parts) (sym same) ∙ here.texts);
       places = append_assoc spans (span ∷ []) (line_spans (i + 1) next)
-        ∙ ap (λ (ss : List Span). spans ++ ss) (sym (line_spans-cut text start i next here.order (omega arith)))
-        ∙ ap (λ (parts : List (List ℕ)). spans ++ line_spans start parts) (sym same) ∙ here.places
+          ∙ ap (λ (ss : List Span). spans ++ ss) (sym (line_spans-cut text start i next here.order (omega arith)))
+          ∙ ap (λ (parts : List (List ℕ)). spans ++ line_spans start parts) (sym same) ∙ here.places;
     }
 
 pub record LinesDone (text : List ℕ) (spans : List Span) : Type 0 where
@@ -216,18 +217,22 @@ last_line text spans start here (inl e) =
     let less : start < n = ltb-true start n e in
     let some : 0 < length run = omega (arith, run_length text start n (omega arith)) in
     let rest : glue run (lines (drop n text)) ≡ run ∷ [] = ap (λ (r : List ℕ). glue run (lines r)) (drop_all n text (omega arith)) ∙ glue-last run some in
-    rw e (map-append (stretch text) spans (record { start = start; end = n } ∷ [])
-      ∙ ap (λ (parts : List (List ℕ)). stretches text spans ++ parts) (sym rest) ∙ here.texts
-    , ap (λ (ss : List Span). spans ++ ss) (sym (line_spans-cut text start n [] here.order (omega arith)))
-      ∙ ap (λ (parts : List (List ℕ)). spans ++ line_spans start parts) (sym rest) ∙ here.places)
+    rw e (
+      map-append (stretch text) spans (record { start = start; end = n } ∷ [])
+          ∙ ap (λ (parts : List (List ℕ)). stretches text spans ++ parts) (sym rest) ∙ here.texts,
+      ap (λ (ss : List Span). spans ++ ss) (sym (line_spans-cut text start n [] here.order (omega arith)))
+          ∙ ap (λ (parts : List (List ℕ)). spans ++ line_spans start parts) (sym rest) ∙ here.places,
+    )
 last_line text spans start here (inr e) =
     let n : ℕ = length text in
     let run : List ℕ = slice_range text start n in
     let least : n ≤ start = ltb-false start n e in
     let none : run ≡ [] = nil_from_length run (omega (arith, run_length text start n (omega arith))) in
     let rest : glue run (lines (drop n text)) ≡ [] = ap (λ (r : List ℕ). glue run (lines r)) (drop_all n text (omega arith)) ∙ ap (λ (r : List ℕ). glue r []) none in
-    rw (e, append-nil spans) (sym (append-nil (stretches text spans)) ∙ ap (λ (parts : List (List ℕ)). stretches text spans ++ parts) (sym rest) ∙ here.texts
-    , sym (append-nil spans) ∙ ap (λ (parts : List (List ℕ)). spans ++ line_spans start parts) (sym rest) ∙ here.places)
+    rw (e, append-nil spans) (
+      sym (append-nil (stretches text spans)) ∙ ap (λ (parts : List (List ℕ)). stretches text spans ++ parts) (sym rest) ∙ here.texts,
+      sym (append-nil spans) ∙ ap (λ (parts : List (List ℕ)). spans ++ line_spans start parts) (sym rest) ∙ here.places,
+    )
 
 pub lines_done : (text : List ℕ) (spans : List Span) (start i : ℕ) → i ≡ length text → LinesSoFar text spans start i → LinesDone text (spans ++ run_spans start (length text))
 lines_done text spans start i last here =

@@ -3,10 +3,12 @@
 
 mod number;
 mod span;
+#[cfg(test)]
+mod tests;
 mod text;
 mod words;
 
-pub use number::{decimal_u32, decimal_u64, NumberError};
+pub use number::{NumberError, decimal_u32, decimal_u64};
 pub use span::Span;
 pub use text::{Text, TextError};
-pub use words::{fields, lines, quoted_words, QuoteError};
+pub use words::{QuoteError, fields, lines, quoted_words};

@@ -6,10 +6,9 @@ ghost use Rattle.tl_text.specs.Spans.{stretches, AreRising, line_spans, run_span
 ghost use Rattle.tl_text.specs.Quotes.{IsQuoteFault};
 ghost use Rattle.tl_text.specs.Quotes as the_quotes;
 
+use crate::span::Span;
 use std::alloc::{AllocError, Global};
 use thiserror::Error;
-
-use crate::span::Span;
 
 /// Why a line has no quoted words.
 #[derive(Debug, Drop, Error)]

@@ -12,11 +12,11 @@ loop-i-preserved c =
       | then-is_blank+in_ok-push_run w ↦
           let ends : is_blank (get_or c.args.line.now c.loop-i.i 0) ≡ true = sym c.is_blank.ensures ∙ w.if-is_blank.true in
           rw (w.spans-is, w.start-is, w.in_ok-push_run.ensures) (words_cut (slice_split is_blank) (slice_split is_blank) c.args.line.now c.loop-i.spans.items c.loop-i.start c.loop-i.i (fields c.args.line.now) (omega arith)
-            (slice_split-cons_yes is_blank (get_or c.args.line.now c.loop-i.i 0) (drop (c.loop-i.i + 1) c.args.line.now) ends) c.loop-i.invariant)
+          (slice_split-cons_yes is_blank (get_or c.args.line.now c.loop-i.i 0) (drop (c.loop-i.i + 1) c.args.line.now) ends) c.loop-i.invariant)
       | else-is_blank w ↦
           let goes_on : is_blank (get_or c.args.line.now c.loop-i.i 0) ≡ false = sym c.is_blank.ensures ∙ w.if-is_blank.false in
           rw (w.spans-is, w.start-is) (words_more (slice_split is_blank) (slice_split is_blank) c.args.line.now c.loop-i.spans.items c.loop-i.start c.loop-i.i (fields c.args.line.now) (omega arith)
-            (slice_split-cons_no is_blank (get_or c.args.line.now c.loop-i.i 0) (drop (c.loop-i.i + 1) c.args.line.now) goes_on) c.loop-i.invariant)
+          (slice_split-cons_no is_blank (get_or c.args.line.now c.loop-i.i 0) (drop (c.loop-i.i + 1) c.args.line.now) goes_on) c.loop-i.invariant)
     ]
 
 pub returns-clause-fields : goal.returns-clause-fields
