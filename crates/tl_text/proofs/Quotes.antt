@@ -1,13 +1,13 @@
 -- Which double quote is open at a place of a line.
-use Rattle.std.proofs.Common.{◌≡◌, ◌⊎◌, ℕ, ◌+◌, ◌<◌, ◌≤◌, Bool, true, false, cond, Option, Some, None, List, [], ◌∷◌, ◌++◌, length, take, drop, get_or, refl, sym, ◌∙◌, ap, subst, inl, inr, arith}
+use Rattle.std.proofs.Common.{◌≡◌, ◌⊎◌, ℕ, ◌+◌, ◌<◌, Bool, true, false, cond, Option, Some, None, List, [], ◌∷◌, length, take, get_or, refl, sym, ◌∙◌, ap, subst, inl, inr, arith}
 use Rattle.std.specs.Prelude.{◌==◌, ◌&&◌, slice_range, slice_get, unwrap_or, not, is_some, All}
 use Rattle.std.specs.List.{onto_first}
 use Rattle.std.proofs.lemmas.Bool.{cases_Bool, true≢false}
-use Rattle.std.proofs.lemmas.List.{take_more, take_all, take_rest, drop_all}
+use Rattle.std.proofs.lemmas.List.{take_more, take_all, take_rest}
 use Rattle.std.proofs.lemmas.List.Edits.{between_more}
 use Rattle.std.proofs.lemmas.List.Elements.{All-push, All-nil}
 use Rattle.std.proofs.lemmas.Option.{slice_get-get_or}
-use Rattle.tl_model.specs.Words.{is_blank, is_open_after, is_open_after-append, is_open_after-none, quoted_parts, IsLoneQuote, IsQuoted}
+use Rattle.tl_model.specs.Words.{is_blank, is_open_after, is_open_after-append, quoted_parts, IsLoneQuote, IsQuoted}
 use Rattle.tl_text.specs.Quotes.{quote_after}
 use Rattle.tl_text.proofs.Runs.{no_run}
 

@@ -1,7 +1,7 @@
-use Rattle.std.proofs.Common.{◌≡◌, ◌+◌, Bool, true, false, length, get_or, drop, refl, sym, ◌∙◌, arith}
+use Rattle.std.proofs.Common.{◌≡◌, ◌+◌, true, false, get_or, drop, refl, sym, ◌∙◌, arith}
 use Rattle.std.specs.List.{slice_split}
 use Rattle.std.proofs.lemmas.List.Splits.{slice_split-cons_yes, slice_split-cons_no}
-use Rattle.tl_model.specs.Words.{is_blank, is_full, fields}
+use Rattle.tl_model.specs.Words.{is_blank, fields}
 use Rattle.tl_text.proofs.Runs.{words_more, words_cut, words_done}
 use Rattle.tl_text.proofs.words.fields.Goals as goal
 use Rattle.tl_text.proofs.words.fields.Goals.{then-is_blank+in_ok-push_run, else-is_blank}

@@ -1,6 +1,5 @@
-use Rattle.std.proofs.Common.{◌≡◌, ◌+◌, ◌<◌, Bool, true, false, eqb, length, get_or, sym, ◌∙◌, arith, rules}
-use Rattle.tl_text.proofs.Runs.{LinesSoFar, lines_more, lines_cut, LinesDone, lines_done}
-use Rattle.tl_text.specs.Spans.{run_spans}
+use Rattle.std.proofs.Common.{arith, rules}
+use Rattle.tl_text.proofs.Runs.{lines_more, lines_cut, lines_done}
 use Rattle.tl_text.proofs.words.lines.Goals as goal
 use Rattle.tl_text.proofs.words.lines.Goals.{then-b-eq10+in_ok-push, else-b-eq10}
 

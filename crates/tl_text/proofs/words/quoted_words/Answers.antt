@@ -1,8 +1,8 @@
-use Rattle.std.proofs.Common.{◌≡◌, ℕ, List, ◌+◌, Bool, true, false, length, get_or, drop, Option, None, refl, sym, ◌∙◌, ap, subst, arith, rules}
+use Rattle.std.proofs.Common.{◌≡◌, ℕ, List, ◌+◌, true, false, get_or, drop, Option, None, refl, sym, ◌∙◌, ap, arith, rules}
 use Rattle.std.specs.Prelude.{is_some, not, ◌&&◌}
 use Rattle.tl_model.specs.Words.{is_blank, quoted_parts, quoted_words}
-use Rattle.tl_text.proofs.Runs.{WordsSoFar, words_start, words_more, words_cut, words_done}
-use Rattle.tl_text.proofs.Quotes.{QuotesSoFar, quotes_more, lone_quote, no_lone_quote, quoted_cut, quoted_on, in_stretch}
+use Rattle.tl_text.proofs.Runs.{words_more, words_cut, words_done}
+use Rattle.tl_text.proofs.Quotes.{quotes_more, lone_quote, quoted_cut, quoted_on, in_stretch}
 use Rattle.tl_text.specs.Quotes.{quote_after}
 use Rattle.tl_text.proofs.words.quoted_words.Goals as goal
 use Rattle.tl_text.proofs.words.quoted_words.Goals.{then-is_none+then-is_blank+in_ok-push_run, else-is_none, else-is_none-via-then-is_none+else-is_blank, else-is_none-via-else-is_none}

@@ -1,4 +1,4 @@
-use Rattle.std.proofs.Common.{rules, arith, refl, sym, ◌∙◌, subst}
+use Rattle.std.proofs.Common.{rules, arith, sym, ◌∙◌, subst}
 use Rattle.std.specs.Prelude.{◌≡◌}
 use Rattle.std.specs.String.{string_bytes}
 use Rattle.tl_text.specs.Texts.{IsText, IsText-from, not_text-utf8}
