@@ -1,7 +1,8 @@
 -- Decimal numbers and their texts.
 use Rattle.std.specs.Prelude.{◌≡◌, ℕ, ◌+◌, ◌-◌, ◌*◌, ◌^◌, ◌<◌, Bool, true, false, ◌&&◌, nat_lt, List, [], ◌∷◌, length}
 use Rattle.std.specs.Fmt.{decimal}
-use Rattle.std.specs.Str.{all_ascii_digits}
+use Rattle.std.specs.Char.{is_ascii_digit}
+use Rattle.std.specs.List.{list_all}
 use Rattle.std.proofs.Common.{◌∙◌, ◌≤◌, ap, refl, get_or, rules}
 use Rattle.std.proofs.lemmas.Bool.{lt-ltb, ltb-true}
 use Rattle.std.proofs.lemmas.Fmt.{decimal-digits_value, decimal_injective, length-decimal-le, digits_decimal, digits_value-decimal, decimal_nonempty}
@@ -18,7 +19,7 @@ decimal_value digits = decimal_after 0 digits
 
 -- whether a text is one or more decimal digits
 abbrev pub is_decimal : List ℕ → Bool
-is_decimal text = nat_lt 0 (length text) && all_ascii_digits text
+is_decimal text = nat_lt 0 (length text) && list_all is_ascii_digit text
 
 -- the text is one or more decimal digits
 abbrev pub IsDecimal : List ℕ → Type 0
@@ -28,21 +29,21 @@ IsDecimal text = is_decimal text ≡ true
 abbrev pub decimal_text : ℕ → List ℕ
 decimal_text n = decimal n
 
-pub decimal_model : IsNumeralModel (λ digits. all_ascii_digits digits ≡ true) decimal_value
+pub decimal_model : IsNumeralModel (λ digits. list_all is_ascii_digit digits ≡ true) decimal_value
 decimal_model = numerals_by_fold _ (search rules) decimal_after (search rules)
 
 -- the printed text of a number is decimal
 pub IsDecimal-decimal_text : (n : ℕ) → n < 2 ^ 64 → IsDecimal (decimal_text n)
 IsDecimal-decimal_text n small =
-    ap (λ t. t && all_ascii_digits (decimal n)) (lt-ltb 0 (length (decimal n)) (decimal_nonempty n small)) ∙ digits_decimal decimal_model n small
+    ap (λ t. t && list_all is_ascii_digit (decimal n)) (lt-ltb 0 (length (decimal n)) (decimal_nonempty n small)) ∙ digits_decimal decimal_model n small
 
 -- the printed text of a number stands for it
 pub decimal_value-decimal_text : (n : ℕ) → n < 2 ^ 64 → decimal_value (decimal_text n) ≡ n
 decimal_value-decimal_text n small = digits_value-decimal decimal_model n small
 
 -- the parts of being decimal
-pub decimal_parts : (text : List ℕ) → IsDecimal text → (0 < length text) × (all_ascii_digits text ≡ true)
-decimal_parts text is = from_both (nat_lt 0 (length text)) (all_ascii_digits text) is (λ some. ltb-true 0 (length text) some)
+pub decimal_parts : (text : List ℕ) → IsDecimal text → (0 < length text) × (list_all is_ascii_digit text ≡ true)
+decimal_parts text is = from_both (nat_lt 0 (length text)) (list_all is_ascii_digit text) is (λ some. ltb-true 0 (length text) some)
   where
     from_both : (a b : Bool) → (a && b) ≡ true → ((a ≡ true) → 0 < length text) → (0 < length text) × (b ≡ true)
     from_both true b is gives = (gives refl, is)

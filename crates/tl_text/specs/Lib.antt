@@ -1,0 +1,4 @@
+pub mod Numbers
+pub mod Spans
+pub mod Texts
+pub mod Quotes
