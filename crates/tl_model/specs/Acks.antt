@@ -1,14 +1,9 @@
 -- Acknowledged lines among bytes.
 use Rattle.std.specs.Prelude.{◌≡◌, ◌≤◌, ◌+◌, ◌==◌, ◌&&◌, if◌then◌else◌, ℕ, Bool, true, false, cond, List, [], ◌∷◌, ◌++◌, take, drop, nat_eq, codes, refl}
-use Rattle.std.specs.Char.{is_ascii_digit}
-use Rattle.std.specs.List.{list_all, before_first, after_first, starts_with, ends_with}
+use Rattle.std.specs.List.{before_first, after_first, starts_with, ends_with}
 use Rattle.std.proofs.Common.{◌∙◌, ap, arith}
 use Rattle.std.proofs.lemmas.List.{take-append-drop}
-
--- one or more decimal digits
-abbrev pub is_number : List ℕ → Bool
-is_number [] = false
-is_number (b ∷ bytes) = list_all is_ascii_digit (b ∷ bytes)
+use Rattle.tl_model.specs.Decimal.{is_decimal}
 
 -- a line, without its end, of the form `step K/N .. done`
 abbrev pub is_ack : List ℕ → Bool
@@ -16,7 +11,7 @@ is_ack line =
     let words = drop 5 line in
     let ratio = before_first (λ b. b == 32) words in
     starts_with nat_eq line (codes "step ")
-    && (is_number (before_first (λ b. b == 47) ratio) && (is_number (after_first (λ b. b == 47) ratio)
+    && (is_decimal (before_first (λ b. b == 47) ratio) && (is_decimal (after_first (λ b. b == 47) ratio)
     && ends_with nat_eq (after_first (λ b. b == 32) words) (codes " done")))
 
 -- whole lines that are acknowledgements, after the front of a line
