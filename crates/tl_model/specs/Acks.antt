@@ -1,9 +1,11 @@
 -- Acknowledged lines among bytes.
 use Rattle.std.specs.Prelude.{◌≡◌, ◌≤◌, ◌+◌, ◌==◌, ◌&&◌, if◌then◌else◌, ℕ, Bool, true, false, cond, List, [], ◌∷◌, ◌++◌, take, drop, nat_eq, codes, refl}
-use Rattle.std.specs.List.{before_first, after_first, starts_with, ends_with}
-use Rattle.std.proofs.Common.{◌∙◌, ap, arith}
-use Rattle.std.proofs.lemmas.List.{take-append-drop}
+use Rattle.std.specs.List.{AllByRecursion, before_first, after_first, starts_with, ends_with}
+use Rattle.std.proofs.Common.{sym, ◌∙◌, ap, arith, append_assoc}
+use Rattle.std.proofs.lemmas.List.{append-nil, take-append-drop}
+use Rattle.std.proofs.lemmas.List.Elements.{All-head, All-tail}
 use Rattle.tl_model.specs.Decimal.{is_decimal}
+use Rattle.tl_model.specs.Lines.{IsLine, text_of}
 
 -- a line, without its end, of the form `step K/N .. done`
 abbrev pub is_ack : List ℕ → Bool
@@ -87,3 +89,30 @@ plain-append xs ys far near = record {
 pub acks-take-le : (n : ℕ) (xs : List ℕ) → acks (take n xs) ≤ acks xs
 unfolding acks
 acks-take-le n xs = omega (arith, ap acks (take-append-drop n xs), acks_append [] (take n xs) (drop n xs))
+
+-- a line with its end, behind the front of it
+line_acks : (front line rest : List ℕ) → IsLine line → acks_after front (line ++ 10 ∷ rest) ≡ (if is_ack (front ++ line) then 1 else 0) + acks_after [] rest
+line_acks front [] rest is = ap (λ (l : List ℕ). (if is_ack l then 1 else 0) + acks_after [] rest) (sym (append-nil front))
+line_acks front (b ∷ line) rest is =
+    ap (λ t. cond t ((if is_ack front then 1 else 0) + acks_after [] (line ++ 10 ∷ rest)) (acks_after (front ++ b ∷ []) (line ++ 10 ∷ rest))) (All-head (λ b. (b == 10) ≡ false) b line is)
+    ∙ line_acks (front ++ b ∷ []) line rest (All-tail (λ b. (b == 10) ≡ false) b line is)
+    ∙ ap (λ (l : List ℕ). (if is_ack l then 1 else 0) + acks_after [] rest) (append_assoc front (b ∷ []) line)
+
+line_open : (front line rest : List ℕ) → IsLine line → open_line front (line ++ 10 ∷ rest) ≡ open_line [] rest
+line_open front [] rest is = refl
+line_open front (b ∷ line) rest is =
+    ap (λ t. cond t (open_line [] (line ++ 10 ∷ rest)) (open_line (front ++ b ∷ []) (line ++ 10 ∷ rest))) (All-head (λ b. (b == 10) ≡ false) b line is)
+    ∙ line_open (front ++ b ∷ []) line rest (All-tail (λ b. (b == 10) ≡ false) b line is)
+
+-- one line that is no acknowledgement, in front of plain lines
+pub plain-line : (line rest : List ℕ) → IsLine line → is_ack line ≡ false → IsPlain rest → IsPlain (line ++ 10 ∷ rest)
+unfolding acks
+plain-line line rest is other plain = record {
+  none = line_acks [] line rest is ∙ ap (λ t. cond t 1 0 + acks_after [] rest) other ∙ ap (λ (n : ℕ). 0 + n) plain.none;
+  whole = line_open [] line rest is ∙ plain.whole;
+}
+
+-- lines that are no acknowledgements, each with its end
+pub plain-text_of : (some : List (List ℕ)) → AllByRecursion IsLine some → AllByRecursion (λ line. is_ack line ≡ false) some → IsPlain (text_of some)
+plain-text_of [] are others = plain-nil
+plain-text_of (line ∷ more) are others = plain-line line (text_of more) are.0 others.0 (plain-text_of more are.1 others.1)
