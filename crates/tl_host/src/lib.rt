@@ -2,11 +2,13 @@
 //! whose contract says what a call does where the device tells what it holds; and the count of steps.
 #![tactic(auto)]
 
+mod file;
 mod host;
 mod shelf;
 mod source;
 mod steps;
 
+pub use file::{FileError, read_file};
 pub use host::{Failed, Host};
 pub use shelf::Shelf;
 pub use source::Source;
