@@ -7,11 +7,15 @@ mod bytes;
 mod components;
 mod error;
 mod fault;
+mod name;
 mod path;
 mod path_ref;
+mod tag;
 
 pub use components::Components;
 pub use error::{NameError, PathError, TagError};
 pub use fault::{PathFault, PathKind};
+pub use name::Name;
 pub use path::Path;
 pub use path_ref::PathRef;
+pub use tag::Tag;

@@ -55,6 +55,13 @@ impl Path {
         }
     }
 
+    pub(crate) fn of(alloc: Global, text: &str) -> Result<Path, AllocError>
+        requires { IsPath text.now }
+        ensures { IfOk result (λ path. path ≡ text.now) }
+    {
+        Ok(Path { text: String::from_str(alloc, text)? })
+    }
+
     /// The path's bytes.
     pub fn bytes(&self) -> &[u8]
         ensures bytes { result.now ≡ self.now }
