@@ -55,7 +55,7 @@ make_word first other most text some short f all =
     both _ _ (le_test 1 (length text) (omega arith)) (both _ _ (le_test (length text) most short) (both _ _ f all))
 
 pub word_utf8 : (first other : ℕ → Bool) (most : ℕ) → ((b : ℕ) → other b ≡ true → b < 128) → (text : List ℕ) → is_word first other most text ≡ true → IsUtf8 text
-word_utf8 first other most small text h = 
+word_utf8 first other most small text h =
     IsUtf8-from_ascii text (ascii other small text (word_all first other most text h))
 
 pub is_of_name-small : (b : ℕ) → is_of_name b ≡ true → b < 128
@@ -116,27 +116,27 @@ longest_front text some first =
     let pos : 0 < k = prefix_len-some is_of_name text some (first_in_name (get_or text 0 0) first) in
     let len : length (take n text) ≡ n = length-take-le n text (omega arith) in
     let named : is_name (take n text) ≡ true = make_word is_letter_or_digit is_of_name 128 (take n text) (omega arith) (omega arith)
-        (rw (get_or-take n text 0 0 (omega arith)) first) (all_front is_of_name text n (omega arith)) in
+    (rw (get_or-take n text 0 0 (omega arith)) first) (all_front is_of_name text n (omega arith)) in
     record {
-        within = omega arith;
-        front = ([], rw append-nil named);
-        longest = λ m above within found.
-            let all : list_all is_of_name (take m text ++ found.0) ≡ true = word_all is_letter_or_digit is_of_name 128 (take m text ++ found.0) found.1 in
-            let short : length (take m text ++ found.0) ≤ 128 = word_short is_letter_or_digit is_of_name 128 (take m text ++ found.0) found.1 in
-            let size : length (take m text) ≡ m = length-take-le m text within in
-            let both_parts : (list_all is_of_name (take m text) && list_all is_of_name found.0) ≡ true = sym (list_all-append is_of_name (take m text) found.0) ∙ all in
-            let far : m ≤ k = front_all is_of_name text m within (left (list_all is_of_name (take m text)) (list_all is_of_name found.0) both_parts) in
-            omega (arith, length-append (take m text) found.0)
+      within = omega arith;
+      front = ([], rw append-nil named);
+      longest = λ m above within found.
+          let all : list_all is_of_name (take m text ++ found.0) ≡ true = word_all is_letter_or_digit is_of_name 128 (take m text ++ found.0) found.1 in
+          let short : length (take m text ++ found.0) ≤ 128 = word_short is_letter_or_digit is_of_name 128 (take m text ++ found.0) found.1 in
+          let size : length (take m text) ≡ m = length-take-le m text within in
+          let both_parts : (list_all is_of_name (take m text) && list_all is_of_name found.0) ≡ true = sym (list_all-append is_of_name (take m text) found.0) ∙ all in
+          let far : m ≤ k = front_all is_of_name text m within (left (list_all is_of_name (take m text)) (list_all is_of_name found.0) both_parts) in
+          omega (arith, length-append (take m text) found.0);
     }
 
 pub no_front : (text : List ℕ) → (0 < length text → is_letter_or_digit (get_or text 0 0) ≡ false) → IsLongestNameFront text 0
 no_front text none = record {
-    within = omega arith;
-    front = (97 ∷ [], refl);
-    longest = λ m above within found.
-        let first : is_letter_or_digit (get_or (take m text ++ found.0) 0 0) ≡ true = word_first is_letter_or_digit is_of_name 128 (take m text ++ found.0) found.1 in
-        let size : length (take m text) ≡ m = length-take-le m text within in
-        let same : get_or (take m text ++ found.0) 0 0 ≡ get_or text 0 0
-            = get_or_append_left (take m text) found.0 0 0 (omega arith) ∙ get_or-take m text 0 0 (omega arith) in
-        true≢false (sym first ∙ ap is_letter_or_digit same ∙ none (omega arith))
+  within = omega arith;
+  front = (97 ∷ [], refl);
+  longest = λ m above within found.
+      let first : is_letter_or_digit (get_or (take m text ++ found.0) 0 0) ≡ true = word_first is_letter_or_digit is_of_name 128 (take m text ++ found.0) found.1 in
+      let size : length (take m text) ≡ m = length-take-le m text within in
+      let same : get_or (take m text ++ found.0) 0 0 ≡ get_or text 0 0
+      = get_or_append_left (take m text) found.0 0 0 (omega arith) ∙ get_or-take m text 0 0 (omega arith) in
+      true≢false (sym first ∙ ap is_letter_or_digit same ∙ none (omega arith));
 }

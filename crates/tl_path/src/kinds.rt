@@ -50,7 +50,9 @@ const CATEGORIES: [Category; 5] = [
 fn category_among(all: &[Category], text: &[u8]) -> Option<Category>
     ensures { result ≡ find (λ category. bytes_eq (category_text category) text.now) all.now }
 {
-    all.iter().copied().find(|category| category.text().as_bytes() == text)
+    all.iter()
+        .copied()
+        .find(|category| category.text().as_bytes() == text)
 }
 
 /// What is checked of a tree.
@@ -90,10 +92,18 @@ impl Check {
     }
 }
 
-const CHECKS: [Check; 5] = [Check::Files, Check::Depends, Check::Duplicates, Check::Executes, Check::All];
+const CHECKS: [Check; 5] = [
+    Check::Files,
+    Check::Depends,
+    Check::Duplicates,
+    Check::Executes,
+    Check::All,
+];
 
 fn check_among(all: &[Check], word: &[u8]) -> Option<Check>
     ensures { result ≡ find (λ check. bytes_eq (check_word check) word.now) all.now }
 {
-    all.iter().copied().find(|check| check.text().as_bytes() == word)
+    all.iter()
+        .copied()
+        .find(|check| check.text().as_bytes() == word)
 }

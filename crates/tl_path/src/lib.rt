@@ -21,3 +21,6 @@ pub use name::Name;
 pub use path::Path;
 pub use path_ref::PathRef;
 pub use tag::Tag;
+
+#[cfg(test)]
+mod tests;

@@ -45,7 +45,9 @@ impl Name {
         ensures { MatchResult result (λ name. (name ≡ text.now) × (is_name text.now ≡ true)) (IsNameErrorOf text.now) }
     {
         if !is_name(text) {
-            return Err(NameError::BadName { at: name_front(text) });
+            return Err(NameError::BadName {
+                at: name_front(text),
+            });
         }
         match String::from_str(alloc, name_text(text)) {
             Ok(text) => Ok(Name { text }),
@@ -74,7 +76,9 @@ impl Clone for Name {
     ghost is_clone = { λ s t. t ≡ s };
 
     fn clone(&self) -> Result<Name, AllocError> {
-        Ok(Name { text: self.text.clone()? })
+        Ok(Name {
+            text: self.text.clone()?,
+        })
     }
 }
 
@@ -141,7 +145,10 @@ impl fmt::Debug for Name {
 fn is_name(text: &[u8]) -> bool
     ensures { result ≡ is_name text.now }
 {
-    !text.is_empty() && text.len() <= LONGEST && is_letter_or_digit(text[0]) && has_only_name_bytes(text)
+    !text.is_empty()
+        && text.len() <= LONGEST
+        && is_letter_or_digit(text[0])
+        && has_only_name_bytes(text)
 }
 
 fn has_only_name_bytes(text: &[u8]) -> bool

@@ -51,7 +51,10 @@ impl Path {
                 Ok(text) => Ok(Path { text }),
                 Err(_) => Err(PathError::NoMemory),
             },
-            Err(fault) => Err(PathError::BadPath { at: fault.at, kind: fault.kind }),
+            Err(fault) => Err(PathError::BadPath {
+                at: fault.at,
+                kind: fault.kind,
+            }),
         }
     }
 
@@ -59,7 +62,9 @@ impl Path {
         requires { IsPath text.now }
         ensures { IfOk result (λ path. path ≡ text.now) }
     {
-        Ok(Path { text: String::from_str(alloc, text)? })
+        Ok(Path {
+            text: String::from_str(alloc, text)?,
+        })
     }
 
     /// The path's bytes.
@@ -118,7 +123,9 @@ impl Clone for Path {
     ghost is_clone = { λ s t. t ≡ s };
 
     fn clone(&self) -> Result<Path, AllocError> {
-        Ok(Path { text: self.text.clone()? })
+        Ok(Path {
+            text: self.text.clone()?,
+        })
     }
 }
 

@@ -116,7 +116,13 @@ fn sized_text(text: &[u8]) -> Result<&str, PathFault>
         },
         Err(error) => {
             let at = error.valid_up_to() as u32;
-            Err(earlier_of(PathFault { at, kind: PathKind::Utf8 }, form))
+            Err(earlier_of(
+                PathFault {
+                    at,
+                    kind: PathKind::Utf8,
+                },
+                form,
+            ))
         }
     }
 }

@@ -74,7 +74,9 @@ impl Clone for Tag {
     ghost is_clone = { λ s t. t ≡ s };
 
     fn clone(&self) -> Result<Tag, AllocError> {
-        Ok(Tag { text: self.text.clone()? })
+        Ok(Tag {
+            text: self.text.clone()?,
+        })
     }
 }
 
@@ -141,7 +143,10 @@ impl fmt::Debug for Tag {
 fn is_tag(text: &[u8]) -> bool
     ensures { result ≡ is_tag text.now }
 {
-    !text.is_empty() && text.len() <= LONGEST && is_letter_or_digit(text[0]) && has_only_tag_bytes(text)
+    !text.is_empty()
+        && text.len() <= LONGEST
+        && is_letter_or_digit(text[0])
+        && has_only_tag_bytes(text)
 }
 
 fn has_only_tag_bytes(text: &[u8]) -> bool

@@ -13,6 +13,6 @@ returns-then-is_letter_or_digit c =
 pub returns-else-not-is_empty : goal.returns-else-not-is_empty
 returns-else-not-is_empty c = no_front c.args.text.now (λ some.
     elim c.else-not-is_empty.branch [
-    else-not-is_empty-via-then-not-is_empty+else-is_letter_or_digit w ↦ sym w.is_letter_or_digit.ensures ∙ w.if-is_letter_or_digit.false
-    | else-not-is_empty-via-else-not-is_empty w ↦ absurd (grind (arith, nat_tests, some))
+      | else-not-is_empty-via-then-not-is_empty+else-is_letter_or_digit w ↦ sym w.is_letter_or_digit.ensures ∙ w.if-is_letter_or_digit.false
+      | else-not-is_empty-via-else-not-is_empty w ↦ absurd (grind (arith, nat_tests, some))
     ])
