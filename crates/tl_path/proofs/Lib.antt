@@ -1,3 +1,4 @@
 pub mod Split
 pub mod Form
 pub mod Front
+pub mod Words

@@ -5,3 +5,4 @@ pub mod Inside
 pub mod Names
 pub mod Reserved
 pub mod Errors
+pub mod Kinds

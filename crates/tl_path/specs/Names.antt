@@ -1,12 +1,12 @@
 -- The forms of names, tags and platforms.
-use Rattle.std.specs.Prelude.{ℕ, ◌+◌, ◌<◌, ◌≤◌, ◌≡◌, ◌++◌, nat_le, ◌&&◌, Bool, true, false, if◌then◌else◌, List, [], ◌∷◌, length, take, min}
-use Rattle.std.specs.List.{list_all, prefix_len}
+use Rattle.std.specs.Prelude.{ℕ, ◌+◌, ◌<◌, ◌≤◌, ◌≡◌, ◌++◌, nat_le, ◌&&◌, Bool, true, List, length, take, slice_index}
+use Rattle.std.specs.List.{list_all}
 use Rattle.tl_path.specs.Bytes.{is_letter_or_digit, is_of_name, is_of_tag, is_lower_or_digit, is_of_platform}
 
 -- a text of 1 to `most` bytes, of which the first passes one test and all pass another
 abbrev pub is_word : (ℕ → Bool) → (ℕ → Bool) → ℕ → List ℕ → Bool
-is_word first other most [] = false
-is_word first other most (b ∷ text) = first b && (nat_le (length (b ∷ text)) most && list_all other (b ∷ text))
+is_word first other most text = nat_le 1 (length text)
+    && (nat_le (length text) most && (first (slice_index text 0) && list_all other text))
 
 -- a name: 1 to 128 letters, digits, '.', '_', '-' and '+', the first a letter or digit
 abbrev pub is_name : List ℕ → Bool

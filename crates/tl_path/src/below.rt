@@ -45,5 +45,7 @@ pub(crate) fn is_reserved(path: &[u8]) -> bool
 fn touches_any(path: &[u8], others: &[&str]) -> bool
     ensures { result ≡ list_any (λ other. is_touching path.now other.now) others.now }
 {
-    others.iter().any(|other| is_touching(path, other.as_bytes()))
+    others
+        .iter()
+        .any(|other| is_touching(path, other.as_bytes()))
 }

@@ -59,9 +59,15 @@ pub(crate) fn size_fault(text: &[u8]) -> Option<PathFault>
     ensures { result ≡ size_fault text.now }
 {
     if text.is_empty() {
-        Some(PathFault { at: 0, kind: PathKind::Empty })
+        Some(PathFault {
+            at: 0,
+            kind: PathKind::Empty,
+        })
     } else if text.len() > LONGEST {
-        Some(PathFault { at: 1024, kind: PathKind::Long })
+        Some(PathFault {
+            at: 1024,
+            kind: PathKind::Long,
+        })
     } else {
         None
     }
@@ -72,7 +78,10 @@ fn byte_fault(text: &[u8]) -> Option<PathFault>
     ensures { result ≡ byte_fault text.now }
 {
     match first_barred(text) {
-        Some(at) => Some(PathFault { at: at as u32, kind: PathKind::Byte }),
+        Some(at) => Some(PathFault {
+            at: at as u32,
+            kind: PathKind::Byte,
+        }),
         None => None,
     }
 }
@@ -92,10 +101,16 @@ fn component_fault(text: &[u8]) -> Option<PathFault>
     let mut count = 0;
     for component in Components::of(text) {
         if is_no_component(component) {
-            return Some(PathFault { at, kind: PathKind::Component });
+            return Some(PathFault {
+                at,
+                kind: PathKind::Component,
+            });
         }
         if count == MOST_COMPONENTS {
-            return Some(PathFault { at, kind: PathKind::Deep });
+            return Some(PathFault {
+                at,
+                kind: PathKind::Deep,
+            });
         }
         at += component.len() as u32 + 1;
         count += 1;

@@ -7,11 +7,20 @@ mod bytes;
 mod components;
 mod error;
 mod fault;
+mod kinds;
+mod name;
 mod path;
 mod path_ref;
+mod tag;
 
 pub use components::Components;
 pub use error::{NameError, PathError, TagError};
 pub use fault::{PathFault, PathKind};
+pub use kinds::{Category, Check};
+pub use name::Name;
 pub use path::Path;
 pub use path_ref::PathRef;
+pub use tag::Tag;
+
+#[cfg(test)]
+mod tests;

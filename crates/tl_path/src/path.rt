@@ -51,8 +51,20 @@ impl Path {
                 Ok(text) => Ok(Path { text }),
                 Err(_) => Err(PathError::NoMemory),
             },
-            Err(fault) => Err(PathError::BadPath { at: fault.at, kind: fault.kind }),
+            Err(fault) => Err(PathError::BadPath {
+                at: fault.at,
+                kind: fault.kind,
+            }),
         }
+    }
+
+    pub(crate) fn of(alloc: Global, text: &str) -> Result<Path, AllocError>
+        requires { IsPath text.now }
+        ensures { IfOk result (λ path. path ≡ text.now) }
+    {
+        Ok(Path {
+            text: String::from_str(alloc, text)?,
+        })
     }
 
     /// The path's bytes.
@@ -111,7 +123,9 @@ impl Clone for Path {
     ghost is_clone = { λ s t. t ≡ s };
 
     fn clone(&self) -> Result<Path, AllocError> {
-        Ok(Path { text: self.text.clone()? })
+        Ok(Path {
+            text: self.text.clone()?,
+        })
     }
 }
 

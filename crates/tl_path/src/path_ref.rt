@@ -1,10 +1,12 @@
 // A checked path that borrows its bytes.
-ghost use Rattle.std.specs.Prelude.{◌≡◌, MatchResult, None, Some};
+ghost use Rattle.std.specs.Prelude.{◌≡◌, IfOk, MatchResult, None, Some};
 ghost use Rattle.tl_path.specs.Path.{IsPath, path_fault, form_fault, size_fault};
 ghost use Rattle.tl_path.specs.Components.{components};
 
 use crate::components::Components;
 use crate::fault::{PathFault, PathKind, earlier_of, place_fault, size_fault};
+use crate::path::Path;
+use std::alloc::{AllocError, Global};
 use std::marker::Model;
 
 /// A checked path that borrows its text, so that a host is called without memory.
@@ -75,6 +77,13 @@ impl<'a> PathRef<'a> {
         PathRef { text: self.text }
     }
 
+    /// An owned path of the same bytes.
+    pub fn to_path(&self, alloc: Global) -> Result<Path, AllocError>
+        ensures { IfOk result (λ path. path ≡ self.now) }
+    {
+        Path::of(alloc, self.text())
+    }
+
     /// The path's components, from the first on.
     pub fn components(&self) -> Components<'a>
         ensures { components_left result ≡ components self.now }
@@ -107,7 +116,13 @@ fn sized_text(text: &[u8]) -> Result<&str, PathFault>
         },
         Err(error) => {
             let at = error.valid_up_to() as u32;
-            Err(earlier_of(PathFault { at, kind: PathKind::Utf8 }, form))
+            Err(earlier_of(
+                PathFault {
+                    at,
+                    kind: PathKind::Utf8,
+                },
+                form,
+            ))
         }
     }
 }

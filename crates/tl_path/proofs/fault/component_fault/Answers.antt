@@ -11,9 +11,9 @@ loop-component-init c =
     let all : components_left c.into_iter-component-iterator.result ≡ components c.args.text.now
     = ap components_left c.into_iter-component-iterator.ensures.into_iter_gives ∙ c.of-component-items.ensures in
     record {
-        can = tt;
-        ends = tt;
-        same = ap (component_fault_from 0 0) (sym all);
-        room = omega (arith, lengths-components c.args.text.now, ap (sum_by (λ d. length d + 1)) all);
-        few = omega arith
+      can = tt;
+      ends = tt;
+      same = ap (component_fault_from 0 0) (sym all);
+      room = omega (arith, lengths-components c.args.text.now, ap (sum_by (λ d. length d + 1)) all);
+      few = omega arith;
     }

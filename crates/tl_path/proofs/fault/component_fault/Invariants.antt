@@ -6,9 +6,9 @@ use Rattle.tl_path.proofs.fault.component_fault.Given as goal
 
 abbrev pub invariant-loop-component : goal.invariant-loop-component
 invariant-loop-component l = record {
-    can : (goal.iterator-loop-component).can_next l.component-iterator;
-    ends : (goal.iterator-loop-component).is_finite l.component-iterator;
-    same : component_fault l.fn.text ≡ component_fault_from l.at l.count (components_left l.component-iterator);
-    room : l.at + sum_by (λ c. length c + 1) (components_left l.component-iterator) ≤ length l.fn.text + 1;
-    few : l.count ≤ 64
+  can : (goal.iterator-loop-component).can_next l.component-iterator;
+  ends : (goal.iterator-loop-component).is_finite l.component-iterator;
+  same : component_fault l.fn.text ≡ component_fault_from l.at l.count (components_left l.component-iterator);
+  room : l.at + sum_by (λ c. length c + 1) (components_left l.component-iterator) ≤ length l.fn.text + 1;
+  few : l.count ≤ 64;
 }

@@ -12,8 +12,10 @@ pub returns-in-Some : goal.returns-in-Some
 returns-in-Some c = path_fault-text c.args.text.now c.requires c.in-Ok.ensures.cases.1 ∙ sym c.place_fault-form.ensures ∙ c.in-Some.is
 
 pub returns-in-None : goal.returns-in-None
-returns-in-None c = (c.in-Ok.ensures.cases.0,
-    path_fault-text c.args.text.now c.requires c.in-Ok.ensures.cases.1 ∙ sym c.place_fault-form.ensures ∙ c.in-None.is)
+returns-in-None c = (
+  c.in-Ok.ensures.cases.0,
+  path_fault-text c.args.text.now c.requires c.in-Ok.ensures.cases.1 ∙ sym c.place_fault-form.ensures ∙ c.in-None.is,
+)
 
 pub returns-in-Err : goal.returns-in-Err
 returns-in-Err c =
