@@ -1,5 +1,5 @@
 -- What a text that is UTF-8 lacks to be a path.
-use Rattle.std.proofs.Common.{◌≡◌, ℕ, List, Option, Some, None, length, refl, arith, cond, nat_lt, nat_eq, false, true, ap, ◌∙◌, ◌<◌, ◌≤◌}
+use Rattle.std.proofs.Common.{◌≡◌, ℕ, List, Some, None, length, arith, cond, nat_lt, nat_eq, false, true, ap, ◌∙◌, ◌<◌, ◌≤◌}
 use Rattle.std.specs.Str.{IsUtf8, IsValidUpTo}
 use Rattle.std.specs.Str.Lossy.{utf8_valid_len}
 use Rattle.std.proofs.lemmas.Str.{utf8_valid_len-IsUtf8, utf8_valid_len-IsValidUpTo}

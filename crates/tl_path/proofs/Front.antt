@@ -1,10 +1,8 @@
 -- A path is below a directory where the directory and a '/' stand at its front.
-use Rattle.std.proofs.Common.{◌≡◌, ◌≢◌, ℕ, ◌+◌, ◌<◌, ◌≤◌, Bool, true, false, cond, ◌&&◌, List, [], ◌∷◌, length, get_or, take, refl, sym, ◌∙◌, ap, nat_eq, suc, arith}
-use Rattle.std.specs.List.{sum_by, onto_first}
+use Rattle.std.proofs.Common.{◌≡◌, ◌≢◌, ℕ, ◌<◌, ◌≤◌, Bool, true, false, cond, ◌&&◌, List, [], ◌∷◌, length, get_or, take, refl, sym, ◌∙◌, ap, nat_eq, arith}
+use Rattle.std.specs.List.{onto_first}
 use Rattle.std.specs.Cmp.Lexicographic.{pointwise}
-use Rattle.std.proofs.lemmas.Bool.{cases_Bool, true≢false}
 use Rattle.std.proofs.lemmas.Bool.Decides.{nat_tests}
-use Rattle.std.proofs.lemmas.Grind.{common_steps}
 use Rattle.tl_path.specs.Components.{components, is_below, is_proper_front}
 use Rattle.tl_path.proofs.Split.{slash, lengths, lengths-components}
 

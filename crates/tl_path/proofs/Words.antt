@@ -8,7 +8,7 @@ use Rattle.std.proofs.lemmas.List.Folds.{list_all-append}
 use Rattle.std.proofs.lemmas.Bool.{true≢false}
 use Rattle.std.proofs.lemmas.Bool.Decides.{nat_tests}
 use Rattle.tl_path.specs.Bytes.{is_letter_or_digit, is_of_name, is_of_tag, is_of_platform}
-use Rattle.tl_path.specs.Names.{is_word, is_name, is_tag, is_platform, IsNameFront, IsLongestNameFront}
+use Rattle.tl_path.specs.Names.{is_word, is_name, is_tag, IsLongestNameFront}
 
 left : (a b : Bool) → (a && b) ≡ true → a ≡ true
 left true b h = refl

@@ -1,5 +1,5 @@
 -- What is left of an iterator over components.
-use Rattle.std.specs.Prelude.{ℕ, List, [], Option, Some, None}
+use Rattle.std.specs.Prelude.{ℕ, List, []}
 use Rattle.std.specs.Option.{option_copied, option_map_or}
 use Rattle.tl_path.specs.declared.components.Components.{Components}
 use Rattle.tl_path.specs.Components as parts

@@ -1,5 +1,5 @@
 -- The forms of names, tags and platforms.
-use Rattle.std.specs.Prelude.{ℕ, ◌+◌, ◌<◌, ◌≤◌, ◌≡◌, ◌++◌, nat_le, ◌&&◌, Bool, true, List, length, take, slice_index}
+use Rattle.std.specs.Prelude.{ℕ, ◌<◌, ◌≤◌, ◌≡◌, ◌++◌, nat_le, ◌&&◌, Bool, true, List, length, take, slice_index}
 use Rattle.std.specs.List.{list_all}
 use Rattle.tl_path.specs.Bytes.{is_letter_or_digit, is_of_name, is_of_tag, is_lower_or_digit, is_of_platform}
 

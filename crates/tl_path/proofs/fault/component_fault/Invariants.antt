@@ -1,4 +1,4 @@
-use Rattle.std.proofs.Common.{◌≡◌, ◌≤◌, ◌+◌, length, ℕ}
+use Rattle.std.proofs.Common.{◌≡◌, ◌≤◌, ◌+◌, length}
 use Rattle.std.specs.List.{sum_by}
 use Rattle.tl_path.specs.Path.{component_fault, component_fault_from}
 use Rattle.tl_path.specs.Inside.{components_left}

@@ -1,4 +1,4 @@
-use Rattle.std.proofs.Common.{arith, ap, sym, ◌∙◌, rules, length, ◌<◌}
+use Rattle.std.proofs.Common.{arith, sym, ◌∙◌, length, ◌<◌}
 use Rattle.std.proofs.lemmas.Bool.Decides.{nat_tests}
 use Rattle.tl_path.proofs.Words.{longest_front, no_front}
 use Rattle.tl_path.proofs.name.name_front.Goals as goal
