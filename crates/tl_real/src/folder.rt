@@ -363,11 +363,10 @@ fn make_new<R: Files<File = File>>(rt: &R, path: &str, name: &str) -> io::Result
 // Removes the file or the link at a path; not a folder, nor a link to one, nor anything else.
 fn clear_away(rt: &impl Files, path: &str) -> io::Result<()> {
     let found = fs::symlink_metadata(rt, path)?;
-    if found.is_symlink() {
-        if leads_to_folder(rt, path) {
-            return Err(io::Error::from(ErrorKind::IsADirectory));
-        }
-    } else if !found.is_file() {
+    if found.is_dir() || leads_to_folder(rt, path) {
+        return Err(io::Error::from(ErrorKind::IsADirectory));
+    }
+    if !found.is_file() && !found.is_symlink() {
         return Err(io::Error::from(ErrorKind::AlreadyExists));
     }
     fs::remove_file(rt, path)

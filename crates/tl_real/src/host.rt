@@ -1,4 +1,4 @@
-ghost use Rattle.std.specs.Prelude.{◌≡◌, ◌≤◌, false, IsTrue, IfOk, IfSome, length, take, option_map};
+ghost use Rattle.std.specs.Prelude.{◌≡◌, ◌≤◌, ◌<◌, ◌↔◌, false, IsTrue, IsSome, IfOk, IfSome, length, take, option_map};
 ghost use Rattle.tl_model.specs.Causes.{HasCause, Rose};
 ghost use Rattle.tl_model.specs.Seen.{untold};
 ghost use Rattle.tl_model.specs.Volume.{IsAfter};
@@ -11,11 +11,25 @@ use std::cmp::Ordering;
 use std::fs::File;
 use std::io;
 use std::io::ErrorKind;
+use std::marker::Model;
 use std::rt::Files;
 use tl_host::{Failed, Host};
 use tl_path::PathRef;
 
-/// A folder of real files, and standard output. It tells nothing but its count of faults.
+/// A folder of real files, and standard output. It tells nothing but its count of faults; contracts see it as that.
+///
+/// A file is a regular file or a link that leads to one. Whatever else stands at a name, as a folder, a link to a folder,
+/// a link to nothing, a pipe or a device, is no file there: it is passed over, and never opened. A name that is no path
+/// is passed over too. A name that the file system can't hold makes `size` fail.
+///
+/// `create` lets go of the file or link that stands at the name, and makes the missing folders; a file below `bin/` is
+/// made executable. `append` adds to no file that has another name: it makes a copy first. `remove` also removes the
+/// folders that are empty then, but not the whole folder. `sync` makes each touched file and each folder in which a name
+/// came or went durable, and asks nothing of the disk where no name is touched; once the system has failed at that,
+/// each later `sync` fails too. `next_name` lists each folder once where each call goes on from the name before.
+///
+/// The first call locks the whole folder against other programs, without waiting, for as long as the host lives. A folder
+/// that is missing, that another program holds, or whose path is not UTF-8 or is empty makes each call fail.
 #[derive(Drop)]
 pub struct FolderHost<'a, R: Files<File = File> + Print + AllocGlobal> {
     folder: Folder<'a, R>,
@@ -23,11 +37,20 @@ pub struct FolderHost<'a, R: Files<File = File> + Print + AllocGlobal> {
     failure: Option<Failure>,
 }
 
+impl<'a, R: Files<File = File> + Print + AllocGlobal> Model for FolderHost<'a, R> {
+    ghost use Rattle.std.specs.Prelude.{ℕ, ◌<◌, ◌↔◌, IsSome};
+
+    ghost Value = { ℕ };
+
+    ghost view = { λ h. h.faults };
+
+    ghost invariant = { λ h. IsSome h.failure ↔ (0 < h.faults) };
+}
+
 impl<'a, R: Files<File = File> + Print + AllocGlobal> FolderHost<'a, R> {
-    /// The folder at this path, with no fault. It touches nothing; the first call locks the folder for as long as the
-    /// host lives, and fails where another program holds it.
+    /// The folder at this path, with no fault. It touches nothing. The error is want of memory.
     pub fn new(rt: &'a R, folder: &[u8]) -> Result<FolderHost<'a, R>, AllocError>
-        ensures { IfOk result (λ host. host.faults ≡ 0) }
+        ensures { IfOk result (λ faults. faults ≡ 0) }
     {
         Ok(FolderHost {
             folder: Folder::new(rt, folder)?,
@@ -36,14 +59,16 @@ impl<'a, R: Files<File = File> + Print + AllocGlobal> FolderHost<'a, R> {
         })
     }
 
-    /// Why the last call that failed did so; `None` where none has.
-    pub fn failure(&self) -> Option<&Failure> {
+    /// Why the last call that failed did so; `None` exactly where none has.
+    pub fn failure(&self) -> Option<&Failure>
+        ensures { IsSome result ↔ (0 < self.now) }
+    {
         self.failure.as_ref()
     }
 
     // What was answered, with a failure kept.
     fn answer<T: Drop>(&mut self, answered: io::Result<T>) -> Result<T, Failed>
-        ensures { HasCause self.old.faults self.new.faults result }
+        ensures { HasCause self.old self.new result }
     {
         match answered {
             Ok(value) => Ok(value),
@@ -55,8 +80,8 @@ impl<'a, R: Files<File = File> + Print + AllocGlobal> FolderHost<'a, R> {
     }
 
     fn fail(&mut self, cause: io::Error)
-        ensures later { self.old.faults ≤ self.new.faults }
-        ensures rose { Rose self.old.faults self.new.faults }
+        ensures later { self.old ≤ self.new }
+        ensures rose { Rose self.old self.new }
     {
         self.faults = self.faults.saturating_add(1);
         self.failure = Some(Failure::new(
@@ -80,7 +105,7 @@ impl<'a, R: Files<File = File> + Print + AllocGlobal> FolderHost<'a, R> {
 impl<'a, R: Files<File = File> + Print + AllocGlobal> Host for FolderHost<'a, R> {
     ghost tells = { false };
 
-    ghost seen = { λ h. untold h.faults };
+    ghost seen = { λ faults. untold faults };
 
     fn size(&mut self, name: PathRef<'_>) -> Result<Option<u64>, Failed> {
         let answered = self.folder.size(name.text());

@@ -65,7 +65,7 @@ fn files_come_and_go(rt: HostRuntime) -> io::Result<()> {
     assert_eq!(rt; size(&mut host, "bin/b/c"), Ok(Some(11)));
     assert_eq!(rt; size(&mut host, "bin/b/c/d"), Ok(None), "below a file");
     assert_eq!(rt; host.read(PathRef::known("bin/b/c"), 6, &mut read), Ok(5));
-    assert!(rt; &read[..5] == b"world".as_slice());
+    assert_eq!(rt; &read, b"world\0\0\0");
     let mode = fs::metadata(&rt, "tl_real_files/bin/b/c")?
         .permissions()
         .mode();

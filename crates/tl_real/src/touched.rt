@@ -13,7 +13,7 @@ pub(crate) struct Touched {
     alloc: Global,
     files: Vec<String>,
     folders: Vec<String>,
-    // whether a sync failed: what it left undone can't be told from what it did
+    // whether the system failed to make something durable: it tells of bytes that it lost only once
     is_unsure: bool,
 }
 
@@ -49,8 +49,7 @@ impl Touched {
         Ok(())
     }
 
-    /// Makes all of it durable, files before folders. After a failure each later call fails too, since the system
-    /// tells of bytes that it lost only once.
+    /// Makes all of it durable, files before folders. Once the system has failed at that, each later call fails too.
     pub(crate) fn settle<R: Files<File = File>>(
         &mut self,
         rt: &R,
@@ -59,12 +58,12 @@ impl Touched {
         if self.is_unsure {
             return Err(io::Error::other("an earlier attempt has failed"));
         }
-        self.is_unsure = true;
-        settle_files(rt, place, &mut self.files)?;
-        settle_folders(rt, place, &mut self.folders)?;
+        in_order(&mut self.files);
+        in_order(&mut self.folders);
+        settle_files(rt, place, &self.files, &mut self.is_unsure)?;
+        settle_folders(rt, place, &self.folders, &mut self.is_unsure)?;
         self.files.clear();
         self.folders.clear();
-        self.is_unsure = false;
         Ok(())
     }
 }
@@ -79,18 +78,22 @@ fn note(alloc: Global, names: &mut Vec<String>, name: &str) -> Result<(), AllocE
     Ok(())
 }
 
+fn in_order(names: &mut Vec<String>) {
+    names.sort_unstable();
+    names.dedup();
+}
+
 // A file that is gone by now needs nothing of its own.
 fn settle_files<R: Files<File = File>>(
     rt: &R,
     place: &mut Place,
-    names: &mut Vec<String>,
+    names: &[String],
+    is_unsure: &mut bool,
 ) -> io::Result<()> {
-    names.sort_unstable();
-    names.dedup();
-    for name in names.iter() {
+    for name in names {
         place.go(name.as_str())?;
         if file_len(rt, place.path())?.is_some() {
-            File::open(rt, place.path())?.sync_all()?;
+            settle_one(&File::open(rt, place.path())?, is_unsure)?;
         }
     }
     Ok(())
@@ -100,17 +103,24 @@ fn settle_files<R: Files<File = File>>(
 fn settle_folders<R: Files<File = File>>(
     rt: &R,
     place: &mut Place,
-    names: &mut Vec<String>,
+    names: &[String],
+    is_unsure: &mut bool,
 ) -> io::Result<()> {
-    names.sort_unstable();
-    names.dedup();
-    for name in names.iter() {
+    for name in names {
         place.go(name.as_str())?;
         match File::open(rt, place.path()) {
-            Ok(folder) => folder.sync_all()?,
+            Ok(folder) => settle_one(&folder, is_unsure)?,
             Err(error) if is_absence(&error) => {}
             Err(error) => return Err(error),
         }
     }
     Ok(())
+}
+
+fn settle_one(file: &File, is_unsure: &mut bool) -> io::Result<()> {
+    let settled = file.sync_all();
+    if settled.is_err() {
+        *is_unsure = true;
+    }
+    settled
 }
