@@ -6,3 +6,4 @@ pub mod Names
 pub mod Reserved
 pub mod Errors
 pub mod Kinds
+pub mod Platforms

@@ -1,5 +1,6 @@
 // What a text that is read may fail by.
 use crate::fault::PathKind;
+use std::alloc::AllocError;
 use thiserror::Error;
 
 /// A text isn't a path.
@@ -41,4 +42,29 @@ pub enum TagError {
     /// No memory for the tag.
     #[error("no memory")]
     NoMemory,
+}
+
+/// A text lists no platforms.
+#[derive(Clone, Copy, Debug, PartialEq, Eq, Error)]
+pub enum PlatformsError {
+    /// The text's first word that is no platform, repeats one before it or is the 33rd.
+    #[error("no platforms: the word at byte {at}")]
+    BadPlatforms {
+        /// The place of the word's first byte, in bytes from the text's start.
+        at: u32,
+    },
+    /// No memory for the platforms.
+    #[error("no memory")]
+    NoMemory,
+}
+
+impl From<AllocError> for PlatformsError {
+    ghost use Rattle.std.specs.Prelude.{◌≡◌};
+    ghost use Rattle.tl_path.specs.declared.error.PlatformsError.TheVariants.{NoMemory};
+
+    ghost from_gives = { λ _ e. e ≡ NoMemory };
+
+    fn from(_error: AllocError) -> PlatformsError {
+        PlatformsError::NoMemory
+    }
 }

@@ -1,7 +1,7 @@
 // Each public call, and tables of texts that are paths and names and of those that are not.
 use crate::{
     Category, Check, Components, Name, NameError, Path, PathError, PathFault, PathKind, PathRef,
-    Tag, TagError,
+    Platforms, PlatformsError, Tag, TagError,
 };
 use std::test::Fail;
 
@@ -179,6 +179,40 @@ fn tags(rt: HostRuntime) -> Result<(), Fail> {
         assert_eq!(rt; Tag::parse(rt.alloc(), text).err(), Some(TagError::NotTag));
     }
     Ok(())
+}
+
+#[test]
+fn platforms_are_kept_in_order(rt: HostRuntime) -> Result<(), Fail> {
+    let platforms = Platforms::parse(rt.alloc(), b" x86_64-linux\t\twindows  armhf-linux ")?;
+    assert_eq!(rt; platforms.len(), 3);
+    let same = platforms.clone()?;
+    assert_eq!(rt; same.get(0), Some(b"armhf-linux".as_slice()));
+    assert_eq!(rt; same.get(1), Some(b"windows".as_slice()));
+    assert_eq!(rt; same.get(2), Some(b"x86_64-linux".as_slice()));
+    assert_eq!(rt; same.get(3), None);
+    assert_eq!(rt; Platforms::parse(rt.alloc(), b"\t ")?.len(), 0);
+    assert_eq!(rt; Platforms::none(rt.alloc()).get(0), None);
+    Ok(())
+}
+
+#[test]
+fn the_first_word_that_no_list_of_platforms_has_is_refused(rt: HostRuntime) {
+    let table: [(&[u8], u32); 5] = [
+        (b"linux  Windows", 7),
+        (b"b a b a", 4),
+        (b"-x", 0),
+        (b" aaaaaaaabbbbbbbbaaaaaaaabbbbbbbbc", 1),
+        (
+            b"a b c d e f g h i j k l m n o p q r s t u v w x y z 0 1 2 3 4 5 6",
+            64,
+        ),
+    ];
+    for (text, at) in table {
+        assert_eq!(rt;
+            Platforms::parse(rt.alloc(), text).err(),
+            Some(PlatformsError::BadPlatforms { at })
+        );
+    }
 }
 
 #[test]

@@ -1,0 +1,183 @@
+// One platform, and the parts of a text between its blanks.
+ghost use Rattle.std.specs.Prelude.{◌≡◌, ◌+◌, ◌<◌, [], ◌∷◌, nat_eq, refl, true, Some, length, take, drop, position, IfOk, MatchOption};
+ghost use Rattle.std.specs.List.{list_all, slice_split};
+ghost use Rattle.std.specs.Iterator.{YieldsFirstRef, item_count};
+ghost use Rattle.std.specs.Ordering.{nat_cmp};
+ghost use Rattle.std.specs.Cmp.{partial_equiv_from_equiv};
+ghost use Rattle.std.specs.Cmp.Lexicographic.{pointwise, slice_cmp, nat_list_eq_equiv, nat_list_cmp_total, texts_ties, texts_po};
+ghost use Rattle.tl_path.specs.Bytes.{is_blank, is_of_platform};
+ghost use Rattle.tl_path.specs.Names.{is_platform};
+
+use crate::bytes::{is_blank, is_lower_or_digit, is_of_platform};
+use std::alloc::{AllocError, Global};
+use std::cmp::Ordering;
+use std::marker::Model;
+
+// A platform. Its order is that of its bytes.
+#[derive(Drop)]
+pub(crate) struct Platform {
+    text: String,
+}
+
+impl Model for Platform {
+    ghost use Rattle.std.specs.Prelude.{◌≡◌, List, ℕ, true, string_bytes};
+    ghost use Rattle.tl_path.specs.Names.{is_platform};
+
+    ghost Value = { List ℕ };
+
+    ghost view = { λ a. string_bytes a.text };
+
+    ghost invariant = { λ a. is_platform (string_bytes a.text) ≡ true };
+}
+
+const LONGEST: usize = 32;
+
+impl Platform {
+    pub(crate) fn of(alloc: Global, text: &[u8]) -> Result<Platform, AllocError>
+        requires { is_platform text.now ≡ true }
+        ensures { IfOk result (λ platform. platform ≡ text.now) }
+    {
+        Ok(Platform {
+            text: String::from_str(alloc, platform_text(text))?,
+        })
+    }
+
+    pub(crate) fn bytes(&self) -> &[u8]
+        ensures bytes { result.now ≡ self.now }
+        ensures platform { is_platform self.now ≡ true }
+    {
+        self.text.as_bytes()
+    }
+
+    pub(crate) fn text(&self) -> &str
+        ensures { result.now ≡ self.now }
+    {
+        self.text.as_str()
+    }
+}
+
+impl Clone for Platform {
+    ghost is_clone = { λ s t. t ≡ s };
+
+    fn clone(&self) -> Result<Platform, AllocError> {
+        Ok(Platform {
+            text: self.text.clone()?,
+        })
+    }
+}
+
+impl PartialEq for Platform {
+    ghost eq = { pointwise nat_eq };
+
+    ghost laws = { partial_equiv_from_equiv nat_list_eq_equiv };
+
+    fn eq(&self, other: &Platform) -> bool {
+        self.text() == other.text()
+    }
+}
+
+impl Eq for Platform {
+    ghost laws = { nat_list_eq_equiv };
+}
+
+impl PartialOrd for Platform {
+    ghost partial_cmp = { λ x y. Some (slice_cmp nat_cmp x y) };
+
+    ghost laws = { texts_po };
+
+    fn partial_cmp(&self, other: &Platform) -> Option<Ordering> {
+        Some(self.cmp(other))
+    }
+}
+
+impl Ord for Platform {
+    ghost cmp = { slice_cmp nat_cmp };
+
+    ghost total = { nat_list_cmp_total };
+
+    ghost matches_partial_cmp = { λ x y. refl };
+
+    ghost matches_eq = { texts_ties };
+
+    fn cmp(&self, other: &Platform) -> Ordering {
+        self.text().cmp(other.text())
+    }
+}
+
+pub(crate) fn is_platform(text: &[u8]) -> bool
+    ensures { result ≡ is_platform text.now }
+{
+    !text.is_empty()
+        && text.len() <= LONGEST
+        && is_lower_or_digit(text[0])
+        && has_only_platform_bytes(text)
+}
+
+fn has_only_platform_bytes(text: &[u8]) -> bool
+    ensures { result ≡ list_all is_of_platform text.now }
+{
+    text.iter().all(|byte| is_of_platform(*byte))
+}
+
+#[tactic(auto, using(crate::proofs::Parts::platform_utf8))]
+fn platform_text(text: &[u8]) -> &str
+    requires { is_platform text.now ≡ true }
+    ensures { result.now ≡ text.now }
+{
+    std::str::from_utf8(text).unwrap()
+}
+
+// An iterator over the parts of a text that blanks part.
+#[derive(Drop)]
+pub(crate) struct Parts<'a> {
+    rest: Option<&'a [u8]>,
+}
+
+impl<'a> Parts<'a> {
+    ghost use Rattle.tl_path.specs.Inside.{parts_left};
+
+    pub(crate) fn of(text: &'a [u8]) -> Parts<'a>
+        ensures { parts_left result ≡ slice_split is_blank text.now }
+    {
+        Parts { rest: Some(text) }
+    }
+}
+
+impl<'a> Iterator for Parts<'a> {
+    ghost use Rattle.tl_path.specs.Inside.{parts_left};
+
+    type Item = &'a [u8];
+
+    ghost next_gives = { YieldsFirstRef parts_left };
+
+    ghost remaining = { item_count parts_left };
+
+    fn next(&mut self) -> Option<&'a [u8]> {
+        let rest = self.rest?;
+        match part_end(rest) {
+            Some(end) => {
+                self.rest = Some(&rest[end + 1..]);
+                Some(&rest[..end])
+            }
+            None => {
+                self.rest = None;
+                Some(rest)
+            }
+        }
+    }
+}
+
+// Where the first part ends: at the first blank, or with the text where this answers None.
+fn part_end(text: &[u8]) -> Option<usize>
+    ensures { MatchOption result (slice_split is_blank text.now ≡ text.now ∷ [])
+        (λ end. (end < length text.now)
+        × (slice_split is_blank text.now ≡ take end text.now ∷ slice_split is_blank (drop (end + 1) text.now))) }
+{
+    first_blank(text)
+}
+
+fn first_blank(text: &[u8]) -> Option<usize>
+    ensures { result ≡ position is_blank text.now }
+{
+    text.iter().position(|byte| is_blank(*byte))
+}

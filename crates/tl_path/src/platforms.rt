@@ -1,0 +1,115 @@
+// Some platforms, as of a tree.
+ghost use Rattle.std.specs.Prelude.{◌≡◌, ◌<◌, ◌^◌, ◌++◌, [], ◌∷◌, length, slice_get, true, MatchBool, MatchResult, OnOk, bytes_eq};
+ghost use Rattle.std.specs.Option.{option_copied};
+ghost use Rattle.std.specs.List.{list_any};
+ghost use Rattle.tl_path.specs.Names.{is_platform};
+ghost use Rattle.tl_path.specs.Platforms.{ArePlatforms, ArePlatformsInOrder, AreListed};
+ghost use Rattle.tl_path.specs.Errors.{IsPlatformsErrorOf};
+
+use crate::error::PlatformsError;
+use crate::platform::{Parts, Platform, is_platform};
+use std::alloc::{AllocError, Global};
+use std::marker::Model;
+
+/// Up to 32 platforms in the order of their bytes, no two the same. A platform is 1 to 32 lower case letters of ASCII,
+/// digits, `_` and `-`, the first a letter or digit.
+#[derive(Drop)]
+pub struct Platforms {
+    names: Vec<Platform>,
+}
+
+impl Model for Platforms {
+    ghost use Rattle.std.specs.Prelude.{List, ℕ};
+    ghost use Rattle.tl_path.specs.Platforms.{ArePlatformsInOrder};
+
+    ghost Value = { List (List ℕ) };
+
+    ghost view = { λ a. a.names.items };
+
+    ghost invariant = { λ a. ArePlatformsInOrder a.names.items };
+}
+
+const MOST: usize = 32;
+
+impl Platforms {
+    /// No platforms.
+    pub fn none(alloc: Global) -> Platforms
+        ensures { result ≡ [] }
+    {
+        Platforms {
+            names: Vec::new(alloc),
+        }
+    }
+
+    /// Reads distinct platforms that blanks part, in any order. `BadPlatforms` is the place of the first word that is
+    /// no platform, repeats one before it or is the 33rd. `NoMemory` comes only where the words before are platforms.
+    pub fn parse(alloc: Global, text: &[u8]) -> Result<Platforms, PlatformsError>
+        requires { length text.now < 2 ^ 32 }
+        ensures { MatchResult result (AreListed text.now) (IsPlatformsErrorOf text.now) }
+    {
+        let mut names = Vec::new(alloc);
+        let mut at = 0;
+        for part in Parts::of(text) {
+            if !part.is_empty() {
+                if is_refused(&names, part) {
+                    return Err(PlatformsError::BadPlatforms { at: at as u32 });
+                }
+                add(alloc, &mut names, part)?;
+            }
+            at += part.len() + 1;
+        }
+        names.sort_unstable();
+        Ok(Platforms { names })
+    }
+
+    /// How many platforms there are.
+    pub fn len(&self) -> u32
+        ensures len { result ≡ length self.now }
+        ensures order { ArePlatformsInOrder self.now }
+    {
+        self.names.len() as u32
+    }
+
+    /// The platform with this number, counted from 0; `None` exactly where it isn't below `len`.
+    pub fn get(&self, i: u32) -> Option<&[u8]>
+        ensures platform { option_copied result ≡ slice_get self.now i }
+        ensures order { ArePlatformsInOrder self.now }
+    {
+        match self.names.get(i as usize) {
+            Some(name) => Some(name.bytes()),
+            None => None,
+        }
+    }
+}
+
+impl Clone for Platforms {
+    ghost is_clone = { λ s t. t ≡ s };
+
+    fn clone(&self) -> Result<Platforms, AllocError> {
+        Ok(Platforms {
+            names: self.names.clone()?,
+        })
+    }
+}
+
+fn add(alloc: Global, names: &mut Vec<Platform>, word: &[u8]) -> Result<(), AllocError>
+    requires { is_platform word.now ≡ true }
+    ensures { OnOk result (names.new.items ≡ names.old.items ++ word.now ∷ []) }
+{
+    names.push(Platform::of(alloc, word)?)?;
+    Ok(())
+}
+
+// Whether a word can't stand behind those names in a text.
+fn is_refused(names: &[Platform], word: &[u8]) -> bool
+    requires { ArePlatforms names.now }
+    ensures { MatchBool result (¬ (ArePlatforms (names.now ++ word.now ∷ []))) (ArePlatforms (names.now ++ word.now ∷ [])) }
+{
+    names.len() >= MOST || !is_platform(word) || has(names, word)
+}
+
+fn has(names: &[Platform], word: &[u8]) -> bool
+    ensures { result ≡ list_any (λ name. bytes_eq name word.now) names.now }
+{
+    names.iter().any(|name| name.bytes() == word)
+}
