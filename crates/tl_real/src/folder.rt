@@ -139,10 +139,7 @@ impl<'a, R: Files<File = File> + Print + AllocGlobal> Folder<'a, R> {
     // take forever, unless the call before has just looked.
     fn open_to_read(&mut self, name: &str) -> io::Result<()> {
         self.reading.close();
-        if self.looked.as_str() != name
-            && self.given() != Some(name)
-            && file_len(self.rt, self.place.path())?.is_none()
-        {
+        if self.looked.as_str() != name && file_len(self.rt, self.place.path())?.is_none() {
             return Ok(());
         }
         match File::open(self.rt, self.place.path()) {
@@ -166,14 +163,25 @@ impl<'a, R: Files<File = File> + Print + AllocGlobal> Folder<'a, R> {
         if self.given() != Some(after) {
             self.walk = Some(Walk::begin(self.rt.alloc(), after)?);
         }
-        let found = match &mut self.walk {
-            Some(walk) => walk.next(self.rt, &mut self.place),
-            None => Ok(false),
-        };
+        let found = self.go_on();
         if found.is_err() {
             self.walk = None;
         }
         found
+    }
+
+    fn go_on(&mut self) -> io::Result<bool> {
+        match &mut self.walk {
+            Some(walk) => {
+                let is_found = walk.next(self.rt, &mut self.place)?;
+                if is_found {
+                    self.looked.clear();
+                    self.looked.push_str(walk.given())?;
+                }
+                Ok(is_found)
+            }
+            None => Ok(false),
+        }
     }
 
     /// The name that the walk gave last.
