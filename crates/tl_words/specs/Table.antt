@@ -1,5 +1,5 @@
 -- The options and actions that the program knows.
-use Rattle.std.specs.Prelude.{ℕ, Bool, true, false, cond, List, [], ◌∷◌, codes, Option, Some, None, find, bytes_eq}
+use Rattle.std.specs.Prelude.{ℕ, Bool, true, false, cond, ◌||◌, List, [], ◌∷◌, codes, Option, Some, None, find, bytes_eq}
 use Rattle.tl_words.specs.declared.table.OptionName.{OptionName}
 use Rattle.tl_words.specs.declared.table.OptionName.TheVariants.{Repository, Workers, Usertree, Usermode, Local, All, Force, Formats, Reinstall, NoDepends, NoDependsAtAll, NoAutoInstall, NoAutoRemove, ReinstallForciblyRemoved}
 use Rattle.tl_words.specs.declared.table.ActionName.{ActionName}
@@ -54,9 +54,17 @@ all_actions = DumpTlpdb ∷ []
 abbrev pub action_named : List ℕ → Option ActionName
 action_named word = find (λ action. bytes_eq (action_text action) word) all_actions
 
+-- whether an option goes with every action
+abbrev pub is_common : OptionName → Bool
+is_common Repository = true
+is_common Workers = true
+is_common _ = false
+
+-- the options that go with one action
+abbrev pub is_own : ActionName → OptionName → Bool
+is_own DumpTlpdb Local = true
+is_own DumpTlpdb _ = false
+
 -- whether an option goes with an action
 abbrev pub goes_with : ActionName → OptionName → Bool
-goes_with action Repository = true
-goes_with action Workers = true
-goes_with DumpTlpdb Local = true
-goes_with DumpTlpdb _ = false
+goes_with action option = is_common option || is_own action option

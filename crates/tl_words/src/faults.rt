@@ -44,7 +44,10 @@ pub(crate) fn size_fault(words: &[Vec<u8>]) -> Option<Fault>
 {
     for at in 0..words.len() {
         if is_past(at, words[at].as_slice()) {
-            return Some(Fault { at, kind: WordKind::Number });
+            return Some(Fault {
+                at,
+                kind: WordKind::Number,
+            });
         }
     }
     None
@@ -72,7 +75,10 @@ pub(crate) fn foreign_fault(action: ActionName, parts: PartsIter<'_>) -> Option<
     for part in parts {
         if let PartRef::Given { at, option, .. } = part {
             if is_foreign(action, option) {
-                return Some(Fault { at, kind: WordKind::Option });
+                return Some(Fault {
+                    at,
+                    kind: WordKind::Option,
+                });
             }
         }
     }

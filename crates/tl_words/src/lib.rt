@@ -9,8 +9,13 @@ mod parts;
 mod read;
 mod settings;
 mod table;
+mod usage;
 
 pub use command::{Action, Bytes, Command, Repositories, Repository};
 pub use error::{WordKind, WordsError};
 pub use line::split_line;
 pub use read::{read_shell_words, read_words};
+pub use usage::usage;
+
+#[cfg(test)]
+mod tests;

@@ -24,7 +24,10 @@ pub(crate) enum PartRef<'a> {
         value: Option<Placed<'a>>,
     },
     /// A word that is no option: the action or an operand.
-    Plain { at: usize, word: &'a [u8] },
+    Plain {
+        at: usize,
+        word: &'a [u8],
+    },
 }
 
 /// An iterator over the parts of words.
@@ -101,14 +104,24 @@ impl<'a> PartsIter<'a> {
         requires { 0 < length words.now }
         ensures { parts_left result ≡ parts false None false 1 (drop 1 (texts words.now)) }
     {
-        PartsIter { words, in_session: false, ended: false, at: 1 }
+        PartsIter {
+            words,
+            in_session: false,
+            ended: false,
+            at: 1,
+        }
     }
 
     // The parts of the words of a session's line.
     pub(crate) fn of_session(words: &'a [Vec<u8>]) -> PartsIter<'a>
         ensures { parts_left result ≡ parts true None false 0 (texts words.now) }
     {
-        PartsIter { words, in_session: true, ended: false, at: 0 }
+        PartsIter {
+            words,
+            in_session: true,
+            ended: false,
+            at: 0,
+        }
     }
 
     // The next word, whatever it stands for.
@@ -127,7 +140,10 @@ impl<'a> PartsIter<'a> {
         }
         let at = self.at;
         self.at = at + 1;
-        Some(Placed { at, word: words[at].as_slice() })
+        Some(Placed {
+            at,
+            word: words[at].as_slice(),
+        })
     }
 
     // The value of an option without '=': the next word, or an empty one at the words' end.
@@ -138,7 +154,10 @@ impl<'a> PartsIter<'a> {
     {
         match self.take_word() {
             Some(placed) => placed,
-            None => Placed { at: self.at, word: b"" },
+            None => Placed {
+                at: self.at,
+                word: b"",
+            },
         }
     }
 }

@@ -16,7 +16,10 @@ use std::alloc::Global;
 fn refused(fault: Fault) -> WordsError
     ensures { IsErrorOf (Some fault) result }
 {
-    WordsError::BadWords { at: u32::try_from(fault.at).unwrap_or(u32::MAX), kind: fault.kind }
+    WordsError::BadWords {
+        at: u32::try_from(fault.at).unwrap_or(u32::MAX),
+        kind: fault.kind,
+    }
 }
 
 // The settings of the options, where neither they nor the words' sizes have a fault.
@@ -38,7 +41,12 @@ fn settings(alloc: Global, words: &[Vec<u8>], parts: PartsIter<'_>) -> Result<Se
 }
 
 // The fault of a known action's words, which `dump-tlpdb` has without `local` and with an operand.
-fn known_fault(action: ActionName, end: usize, parts: PartsIter<'_>, operand: Option<Placed<'_>>) -> Option<Fault>
+fn known_fault(
+    action: ActionName,
+    end: usize,
+    parts: PartsIter<'_>,
+    operand: Option<Placed<'_>>,
+) -> Option<Fault>
     ensures { result ≡ or_else (foreign_fault action (parts_left parts.entry))
         (or_else (required_fault action end (parts_left parts.entry)) (operand_fault action (option_map placed_of operand.entry))) }
 {
@@ -49,10 +57,16 @@ fn known_fault(action: ActionName, end: usize, parts: PartsIter<'_>, operand: Op
     match action {
         ActionName::DumpTlpdb => {
             if !has_local(parts) {
-                return Some(Fault { at: end, kind: WordKind::Option });
+                return Some(Fault {
+                    at: end,
+                    kind: WordKind::Option,
+                });
             }
             match operand {
-                Some(operand) => Some(Fault { at: operand.at, kind: WordKind::Operand }),
+                Some(operand) => Some(Fault {
+                    at: operand.at,
+                    kind: WordKind::Operand,
+                }),
                 None => None,
             }
         }
@@ -68,10 +82,16 @@ fn find_action(end: usize, parts: PartsIter<'_>) -> Result<ActionName, Fault>
 {
     let (first, operand) = first_plains(parts);
     let Some(first) = first else {
-        return Err(Fault { at: end, kind: WordKind::Action });
+        return Err(Fault {
+            at: end,
+            kind: WordKind::Action,
+        });
     };
     let Some(action) = ActionName::named(first.word) else {
-        return Err(Fault { at: first.at, kind: WordKind::Action });
+        return Err(Fault {
+            at: first.at,
+            kind: WordKind::Action,
+        });
     };
     match known_fault(action, end, parts, operand) {
         Some(fault) => Err(fault),
@@ -79,7 +99,12 @@ fn find_action(end: usize, parts: PartsIter<'_>) -> Result<ActionName, Fault>
     }
 }
 
-fn command(alloc: Global, root: Bytes, words: &[Vec<u8>], parts: PartsIter<'_>) -> Result<Command, WordsError>
+fn command(
+    alloc: Global,
+    root: Bytes,
+    words: &[Vec<u8>],
+    parts: PartsIter<'_>,
+) -> Result<Command, WordsError>
     ensures none { OnOk result (command_fault (texts words.now) (parts_left parts.entry) ≡ None) }
     ensures root { IfOk result (λ command. command.root ≡ root) }
     ensures command { IfOk result (IsCommandOf (parts_left parts.entry)) }
@@ -91,7 +116,9 @@ fn command(alloc: Global, root: Bytes, words: &[Vec<u8>], parts: PartsIter<'_>) 
             root,
             repositories: Repositories::new(settings.repositories),
             workers: settings.workers,
-            action: Action::DumpTlpdb { local: has_local(parts) },
+            action: Action::DumpTlpdb {
+                local: has_local(parts),
+            },
             user: None,
             formats: false,
         }),
@@ -107,7 +134,10 @@ pub fn read_words(alloc: Global, words: &[Vec<u8>]) -> Result<Command, WordsErro
     ensures fault { IfErr result (IsErrorOf (words_fault (texts words.now))) }
 {
     let Some(root) = words.first() else {
-        return Err(WordsError::BadWords { at: 0, kind: WordKind::Root });
+        return Err(WordsError::BadWords {
+            at: 0,
+            kind: WordKind::Root,
+        });
     };
     match Vec::from_slice(alloc, root.as_slice()) {
         Ok(root) => command(alloc, Bytes::new(root), words, PartsIter::of_program(words)),
@@ -122,5 +152,10 @@ pub fn read_shell_words(alloc: Global, words: &[Vec<u8>]) -> Result<Command, Wor
     ensures command { IfOk result (IsCommandOf (session_parts (texts words.now))) }
     ensures fault { IfErr result (IsErrorOf (session_fault (texts words.now))) }
 {
-    command(alloc, Bytes::new(Vec::new(alloc)), words, PartsIter::of_session(words))
+    command(
+        alloc,
+        Bytes::new(Vec::new(alloc)),
+        words,
+        PartsIter::of_session(words),
+    )
 }

@@ -84,10 +84,16 @@ impl Settings {
             Err(_) => return Err(OptionsError::NoMemory),
         };
         if has_tag(&self.repositories, &repository.tag) {
-            return Err(OptionsError::Bad(Fault { at, kind: WordKind::Value }));
+            return Err(OptionsError::Bad(Fault {
+                at,
+                kind: WordKind::Value,
+            }));
         }
         if self.repositories.len() >= 16 {
-            return Err(OptionsError::Bad(Fault { at, kind: WordKind::Number }));
+            return Err(OptionsError::Bad(Fault {
+                at,
+                kind: WordKind::Number,
+            }));
         }
         match self.repositories.push(repository) {
             Ok(()) => Ok(()),
@@ -96,7 +102,13 @@ impl Settings {
     }
 
     // What a value that isn't empty says for its option.
-    fn set(&mut self, alloc: Global, option: OptionName, at: usize, value: &[u8]) -> Result<(), OptionsError>
+    fn set(
+        &mut self,
+        alloc: Global,
+        option: OptionName,
+        at: usize,
+        value: &[u8],
+    ) -> Result<(), OptionsError>
         ensures none { OnOk result (setting_fault (tags_in self.old.repositories.items) option at value.now ≡ None) }
         ensures added { OnOk result (self.new.repositories.items
             ≡ self.old.repositories.items ++ repository_list (Some option) (Some (at, value.now))) }
@@ -110,14 +122,23 @@ impl Settings {
                     self.workers = workers;
                     Ok(())
                 }
-                None => Err(OptionsError::Bad(Fault { at, kind: WordKind::Number })),
+                None => Err(OptionsError::Bad(Fault {
+                    at,
+                    kind: WordKind::Number,
+                })),
             },
             _ => Ok(()),
         }
     }
 
     // What one option says.
-    fn give(&mut self, alloc: Global, at: usize, option: Option<OptionName>, value: Option<Placed<'_>>) -> Result<(), OptionsError>
+    fn give(
+        &mut self,
+        alloc: Global,
+        at: usize,
+        option: Option<OptionName>,
+        value: Option<Placed<'_>>,
+    ) -> Result<(), OptionsError>
         ensures none { OnOk result (given_fault (tags_in self.old.repositories.items) at option (option_map placed_of value.entry) ≡ None) }
         ensures added { OnOk result (self.new.repositories.items
             ≡ self.old.repositories.items ++ repository_list option (option_map placed_of value.entry)) }
@@ -126,16 +147,25 @@ impl Settings {
             (given_fault (tags_in self.old.repositories.items) at option (option_map placed_of value.entry))) }
     {
         let Some(option) = option else {
-            return Err(OptionsError::Bad(Fault { at, kind: WordKind::Option }));
+            return Err(OptionsError::Bad(Fault {
+                at,
+                kind: WordKind::Option,
+            }));
         };
         let Some(value) = value else {
             return Ok(());
         };
         if !option.takes_value() {
-            return Err(OptionsError::Bad(Fault { at, kind: WordKind::Value }));
+            return Err(OptionsError::Bad(Fault {
+                at,
+                kind: WordKind::Value,
+            }));
         }
         if value.word.is_empty() {
-            return Err(OptionsError::Bad(Fault { at: value.at, kind: WordKind::Value }));
+            return Err(OptionsError::Bad(Fault {
+                at: value.at,
+                kind: WordKind::Value,
+            }));
         }
         self.set(alloc, option, value.at, value.word)
     }
@@ -148,7 +178,10 @@ pub(crate) fn read_options(alloc: Global, parts: PartsIter<'_>) -> Result<Settin
     ensures workers { IfOk result (λ settings. settings.workers ≡ workers_of 4 (parts_left parts.entry)) }
     ensures fault { IfErr result (IsOptionsError (options_fault [] (parts_left parts.entry))) }
 {
-    let mut settings = Settings { repositories: Vec::new(alloc), workers: 4 };
+    let mut settings = Settings {
+        repositories: Vec::new(alloc),
+        workers: 4,
+    };
     for part in parts {
         if let PartRef::Given { at, option, value } = part {
             settings.give(alloc, at, option, value)?;

@@ -1,6 +1,6 @@
 // The options and the actions that the program knows.
 ghost use Rattle.std.specs.Prelude.{◌≡◌, bytes_eq, find};
-ghost use Rattle.tl_words.specs.Table.{option_text, takes_value, option_named, action_text, action_named, all_actions, goes_with, known_options};
+ghost use Rattle.tl_words.specs.Table.{option_text, takes_value, option_named, action_text, action_named, goes_with, is_common};
 
 /// The options.
 #[derive(Clone, Copy, Debug, PartialEq, Eq)]
@@ -22,7 +22,7 @@ pub enum OptionName {
 }
 
 // All options; those behind the first are known in a session's lines too.
-const OPTIONS: [OptionName; 14] = [
+pub(crate) const OPTIONS: [OptionName; 14] = [
     OptionName::Repository,
     OptionName::Workers,
     OptionName::Usertree,
@@ -70,17 +70,33 @@ impl OptionName {
         }
     }
 
+    // Whether it goes with every action.
+    pub(crate) fn is_common(self) -> bool
+        ensures { result ≡ is_common self }
+    {
+        match self {
+            OptionName::Repository | OptionName::Workers => true,
+            _ => false,
+        }
+    }
+
     pub(crate) fn named(in_session: bool, name: &[u8]) -> Option<OptionName>
         ensures { result ≡ option_named in_session name.now }
     {
-        if in_session { option_among(&OPTIONS[1..], name) } else { option_among(&OPTIONS, name) }
+        if in_session {
+            option_among(&OPTIONS[1..], name)
+        } else {
+            option_among(&OPTIONS, name)
+        }
     }
 }
 
 fn option_among(all: &[OptionName], name: &[u8]) -> Option<OptionName>
     ensures { result ≡ find (λ option. bytes_eq (option_text option) name.now) all.now }
 {
-    all.iter().copied().find(|option| option.text().as_bytes() == name)
+    all.iter()
+        .copied()
+        .find(|option| option.text().as_bytes() == name)
 }
 
 /// The actions that are on.
@@ -89,7 +105,7 @@ pub enum ActionName {
     DumpTlpdb,
 }
 
-const ACTIONS: [ActionName; 1] = [ActionName::DumpTlpdb];
+pub(crate) const ACTIONS: [ActionName; 1] = [ActionName::DumpTlpdb];
 
 impl ActionName {
     pub(crate) fn text(self) -> &'static str
@@ -106,14 +122,30 @@ impl ActionName {
         action_among(&ACTIONS, word)
     }
 
-    // Whether the option goes with the action, as `repository` and `workers` do with each.
+    // Whether the option goes with the action.
     pub(crate) fn goes_with(self, option: OptionName) -> bool
         ensures { result ≡ goes_with self option }
     {
+        if option.is_common() {
+            return true;
+        }
         match (self, option) {
-            (_, OptionName::Repository | OptionName::Workers) => true,
             (ActionName::DumpTlpdb, OptionName::Local) => true,
             (ActionName::DumpTlpdb, _) => false,
+        }
+    }
+
+    // Its operands in a usage text, each with a blank before it.
+    pub(crate) fn operands(self) -> &'static str {
+        match self {
+            ActionName::DumpTlpdb => "",
+        }
+    }
+
+    // What it does, in a line.
+    pub(crate) fn effect(self) -> &'static str {
+        match self {
+            ActionName::DumpTlpdb => "Says the text of the local database.",
         }
     }
 }
@@ -121,5 +153,7 @@ impl ActionName {
 fn action_among(all: &[ActionName], word: &[u8]) -> Option<ActionName>
     ensures { result ≡ find (λ action. bytes_eq (action_text action) word.now) all.now }
 {
-    all.iter().copied().find(|action| action.text().as_bytes() == word)
+    all.iter()
+        .copied()
+        .find(|action| action.text().as_bytes() == word)
 }

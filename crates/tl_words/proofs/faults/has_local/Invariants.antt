@@ -5,7 +5,7 @@ use Rattle.tl_words.proofs.faults.has_local.Given as goal
 
 abbrev pub invariant-loop-part : goal.invariant-loop-part
 invariant-loop-part l = record {
-    can : (goal.iterator-loop-part).can_next l.part-iterator;
-    ends : (goal.iterator-loop-part).is_finite l.part-iterator;
-    same : has_local (parts_left l.fn.parts) ≡ has_local (parts_left l.part-iterator)
+  can : (goal.iterator-loop-part).can_next l.part-iterator;
+  ends : (goal.iterator-loop-part).is_finite l.part-iterator;
+  same : has_local (parts_left l.fn.parts) ≡ has_local (parts_left l.part-iterator);
 }

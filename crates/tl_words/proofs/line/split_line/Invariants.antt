@@ -5,4 +5,4 @@ use Rattle.tl_words.specs.Lines.{unquoted}
 use Rattle.tl_words.proofs.line.split_line.Given as goal
 
 abbrev pub invariant-loop-span : goal.invariant-loop-span
-invariant-loop-span l = texts l.words.items ≡ map unquoted (map (stretch l.line) (take l.span-index l.spans.items))
+invariant-loop-span l = texts l.words.items ≡ map unquoted (map (stretch l.line) (take l.span-index l.span-items))

@@ -21,7 +21,8 @@ returns-in-Some-known_fault c =
 pub returns-in-None : goal.returns-in-None
 returns-in-None c =
     let two : IsFirstTwo (plains (parts_left c.args.parts)) (Some (placed_of c.in-Some.first)) (option_map placed_of c.first_plains.result.1)
-    = subst (λ (f : Option Placed). IsFirstTwo (plains (parts_left c.args.parts)) (option_map placed_of f) (option_map placed_of c.first_plains.result.1)) c.in-Some.is c.first_plains.ensures in
-    (known_action c.args.end (parts_left c.args.parts) (plains (parts_left c.args.parts)) (placed_of c.in-Some.first) (option_map placed_of c.first_plains.result.1) c.in-Some-named.action two (sym c.named.ensures ∙ c.in-Some-named.is)
-    ∙ sym c.known_fault.ensures ∙ c.in-None.is,
-    found_action (plains (parts_left c.args.parts)) (placed_of c.in-Some.first) (option_map placed_of c.first_plains.result.1) c.in-Some-named.action two (sym c.named.ensures ∙ c.in-Some-named.is))
+    = subst (λ (f : Option Placed). IsFirstTwo (plains (parts_left c.args.parts)) (option_map placed_of f) (option_map placed_of c.first_plains.result.1)) c.in-Some.is c.first_plains.ensures in (
+      known_action c.args.end (parts_left c.args.parts) (plains (parts_left c.args.parts)) (placed_of c.in-Some.first) (option_map placed_of c.first_plains.result.1) c.in-Some-named.action two (sym c.named.ensures ∙ c.in-Some-named.is)
+          ∙ sym c.known_fault.ensures ∙ c.in-None.is,
+      found_action (plains (parts_left c.args.parts)) (placed_of c.in-Some.first) (option_map placed_of c.first_plains.result.1) c.in-Some-named.action two (sym c.named.ensures ∙ c.in-Some-named.is),
+    )
