@@ -1,0 +1,23 @@
+-- The words from a place on.
+use Rattle.std.proofs.Common.{◌≡◌, ℕ, ◌+◌, ◌<◌, List, [], ◌∷◌, length, drop, get_or, map, Vec, suc, zero, ap, sym, ◌∙◌, refl, arith, add-one, Bool, ◌||◌}
+use Rattle.std.specs.List.{list_any}
+use Rattle.tl_words.specs.Faults.{size_fault}
+use Rattle.std.specs.declared.alloc.Global.{Global}
+use Rattle.tl_words.specs.Inside.{texts}
+
+from_place : (words : List (Vec ℕ Global)) (i : ℕ) (v : Vec ℕ Global) → i < length words → v ≡ get_or words i v → drop i (texts words) ≡ v.items ∷ drop (suc i) (texts words)
+from_place [] i v h is = absurd (omega arith)
+from_place (w ∷ ws) zero v h is = ap (λ (x : Vec ℕ Global). x.items ∷ texts ws) (sym is)
+from_place (w ∷ ws) (suc i) v h is = from_place ws i v (omega arith) is
+
+pub drop_texts : (words : List (Vec ℕ Global)) (i : ℕ) (v : Vec ℕ Global) → i < length words → v ≡ get_or words i v → drop i (texts words) ≡ v.items ∷ drop (i + 1) (texts words)
+drop_texts words i v h is = rw add-one (from_place words i v h is)
+
+-- what is looked at at a place of the words
+pub size_step : (words : List (Vec ℕ Global)) (i : ℕ) (v : Vec ℕ Global) → i < length words → v ≡ get_or words i v
+    → size_fault i (drop i (texts words)) ≡ size_fault i (v.items ∷ drop (i + 1) (texts words))
+size_step words i v h is = ap (size_fault i) (drop_texts words i v h is)
+
+pub list_any_map : {A B : Type 0} (p : B → Bool) (f : A → B) (xs : List A) → list_any p (map f xs) ≡ list_any (λ x. p (f x)) xs
+list_any_map p f [] = refl
+list_any_map p f (x ∷ xs) = ap (λ b. p (f x) || b) (list_any_map p f xs)

@@ -1,0 +1,21 @@
+//! The words of a command line: which command they ask for, or where they fail to ask for one.
+#![tactic(auto)]
+
+mod command;
+mod error;
+mod faults;
+mod line;
+mod parts;
+mod read;
+mod settings;
+mod table;
+mod usage;
+
+pub use command::{Action, Bytes, Command, Repositories, Repository};
+pub use error::{WordKind, WordsError};
+pub use line::split_line;
+pub use read::{read_shell_words, read_words};
+pub use usage::usage;
+
+#[cfg(test)]
+mod tests;
