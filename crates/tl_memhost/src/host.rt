@@ -1,0 +1,102 @@
+// A host in memory.
+ghost use Rattle.std.specs.Prelude.{◌≡◌, ◌≤◌, ◌<◌, ◌+◌, ◌-◌, ◌^◌, ◌++◌, ◌∷◌, ◌⊎◌, [], length, IfOk, OnOk, OnErr, IsSome, if◌then◌else◌};
+ghost use Rattle.std.specs.Option.{option_map, unwrap_or};
+ghost use Rattle.std.specs.FinMap as map;
+ghost use Rattle.tl_model.specs.Volume.{at};
+ghost use Rattle.tl_model.specs.Seen.{changing, moment};
+ghost use Rattle.tl_path.specs.Path.{IsPath};
+ghost use Rattle.tl_memhost.specs.Memory.{seen, moment_of, before_call, is_named, looked, failed, lost, changed, settled, synced, told};
+
+use crate::files::Files;
+use crate::record::{Did, Entry};
+use std::alloc::{AllocError, Global};
+use std::marker::Model;
+use tl_host::Failed;
+use tl_path::Path;
+
+/// A volume of files in memory, with a record of its calls: it tells all that it holds, fails at the calls that it is
+/// told to, and gives what a stop at each call leaves.
+#[derive(Drop)]
+pub struct MemHost {
+    alloc: Global,
+    files: Files,
+    said: Vec<u8>,
+    record: Vec<Entry>,
+    rest: u64,
+    calls: u64,
+    short: u64,
+    failing: Vec<u64>,
+    syncs: u64,
+    faults: u64,
+    seek: Vec<u8>,
+}
+
+impl Model for MemHost {
+    ghost use Rattle.std.specs.Prelude.{◌≤◌};
+    ghost use Rattle.std.specs.Vec.{vec_capacity};
+    ghost use Rattle.tl_memhost.specs.Memory.{Memory, memory_code, IsCounted};
+
+    ghost Value = { Memory };
+
+    ghost coded = { memory_code };
+
+    ghost use Rattle.tl_memhost.specs.Record.{memory};
+
+    ghost view = { λ h. memory h.record.items h.files h.said.items h.rest h.calls h.short h.failing.items h.syncs h.faults };
+
+    ghost invariant = { λ h. IsCounted (memory h.record.items h.files h.said.items h.rest h.calls h.short h.failing.items h.syncs h.faults) × (1024 ≤ vec_capacity h.seek) };
+}
+
+impl MemHost {
+    /// The number of calls of `Host` so far.
+    pub fn calls(&self) -> u64
+        ensures calls { result ≡ self.now.calls }
+    {
+        self.calls
+    }
+
+    // Whether the next call is to fail.
+    pub(crate) fn is_named(&self) -> bool
+        ensures { result ≡ is_named self.now }
+    {
+        self.failing.contains(&self.calls)
+    }
+
+    // Counts a call that only looked.
+    pub(crate) fn look(&mut self)
+        ensures { self.new ≡ looked self.old }
+    {
+        self.rest = self.rest.saturating_add(1);
+        self.calls = self.calls.saturating_add(1);
+    }
+
+    // Counts a call that found no memory.
+    pub(crate) fn lose(&mut self)
+        ensures { self.new ≡ lost self.old }
+    {
+        self.calls = self.calls.saturating_add(1);
+        self.short = self.short.saturating_add(1);
+        self.faults = self.faults.saturating_add(1);
+    }
+
+    // Counts a fault.
+    pub(crate) fn fail(&mut self)
+        ensures { self.new ≡ failed self.old }
+    {
+        self.faults = self.faults.saturating_add(1);
+    }
+
+    // Counts a sync.
+    pub(crate) fn count_sync(&mut self)
+        ensures { self.new ≡ synced self.old }
+    {
+        self.syncs = self.syncs.saturating_add(1);
+    }
+
+    // What a name holds.
+    pub(crate) fn held(&self, name: &[u8]) -> Option<&[u8]>
+        ensures { option_map (λ b. b.now) result ≡ at self.now.present.held name.now }
+    {
+        self.files.get(name)
+    }
+}

@@ -1,0 +1,8 @@
+//! A host, a shelf and a source in memory. They tell what they hold, and fail where they are told to.
+#![tactic(auto)]
+
+mod files;
+mod host;
+mod record;
+
+pub use host::MemHost;
