@@ -7,6 +7,7 @@ ghost use Rattle.tl_model.specs.Seen.{changing, moment};
 ghost use Rattle.tl_path.specs.Path.{IsPath};
 ghost use Rattle.tl_memhost.specs.Memory.{seen, moment_of, before_call, is_named, looked, failed, lost, changed, settled, synced, told};
 
+use crate::changes::enter;
 use crate::files::Files;
 use crate::record::{Did, Entry};
 use std::alloc::{AllocError, Global};
@@ -98,5 +99,104 @@ impl MemHost {
         ensures { option_map (λ b. b.now) result ≡ at self.now.present.held name.now }
     {
         self.files.get(name)
+    }
+
+    // Records a change of a name that fails.
+    pub(crate) fn touch(&mut self, name: &[u8]) -> Result<(), AllocError>
+        ensures ok { OnOk result (self.new ≡ changed name.now self.old.present.held self.old) }
+        ensures err { OnErr result (self.new ≡ self.old) }
+    {
+        let name = Vec::from_slice(self.alloc, name)?;
+        self.record.reserve(1)?;
+        enter(&mut self.record, self.calls, self.rest, Did::Failing(name));
+        self.rest = 0;
+        self.calls = self.calls.saturating_add(1);
+        Ok(())
+    }
+
+    // Makes the name hold the empty file.
+    pub(crate) fn make(&mut self, name: &[u8]) -> Result<(), AllocError>
+        requires { IsPath name.now }
+        ensures ok { OnOk result (self.new ≡ changed name.now (map.insert self.old.present.held name.now []) self.old) }
+        ensures err { OnErr result (self.new ≡ self.old) }
+    {
+        let key = Vec::from_slice(self.alloc, name)?;
+        let name = Vec::from_slice(self.alloc, name)?;
+        self.record.reserve(1)?;
+        let before = self.files.insert(key, Vec::new(self.alloc))?;
+        enter(&mut self.record, self.calls, self.rest, Did::Put(name, before));
+        self.rest = 0;
+        self.calls = self.calls.saturating_add(1);
+        Ok(())
+    }
+
+    // Makes the name absent.
+    pub(crate) fn clear(&mut self, name: &[u8]) -> Result<(), AllocError>
+        ensures ok { OnOk result (self.new ≡ changed name.now (map.remove self.old.present.held name.now) self.old) }
+        ensures err { OnErr result (self.new ≡ self.old) }
+    {
+        let gone = Vec::from_slice(self.alloc, name)?;
+        self.record.reserve(1)?;
+        let before = self.files.remove(name);
+        enter(&mut self.record, self.calls, self.rest, Did::Put(gone, before));
+        self.rest = 0;
+        self.calls = self.calls.saturating_add(1);
+        Ok(())
+    }
+
+    // Adds bytes at the end of a file that is there.
+    pub(crate) fn grow(&mut self, name: &[u8], bytes: &[u8]) -> Result<(), AllocError>
+        requires { IsSome (at self.old.present.held name.now) }
+        ensures ok { OnOk result (self.new ≡ changed name.now
+            (map.insert self.old.present.held name.now (unwrap_or (at self.old.present.held name.now) [] ++ bytes.now)) self.old) }
+        ensures err { OnErr result (self.new ≡ self.old) }
+    {
+        let grown = Vec::from_slice(self.alloc, name)?;
+        self.record.reserve(1)?;
+        let length = self.files.append(name, bytes)?;
+        enter(&mut self.record, self.calls, self.rest, Did::Grown(grown, length));
+        self.rest = 0;
+        self.calls = self.calls.saturating_add(1);
+        Ok(())
+    }
+
+    // Leaves no name touched.
+    pub(crate) fn settle(&mut self) -> Result<(), AllocError>
+        ensures ok { OnOk result (self.new ≡ settled self.old) }
+        ensures err { OnErr result (self.new ≡ synced self.old) }
+    {
+        self.syncs = self.syncs.saturating_add(1);
+        self.record.reserve(1)?;
+        enter(&mut self.record, self.calls, self.rest, Did::Synced);
+        self.rest = 0;
+        self.calls = self.calls.saturating_add(1);
+        Ok(())
+    }
+
+    // Says bytes.
+    pub(crate) fn tell(&mut self, bytes: &[u8]) -> Result<(), AllocError>
+        ensures ok { OnOk result (self.new ≡ told bytes.now bytes.now self.old) }
+        ensures err { OnErr result (self.new ≡ self.old) }
+    {
+        self.record.reserve(1)?;
+        let length = self.said.as_slice().len();
+        self.said.extend_from_slice(bytes)?;
+        enter(&mut self.record, self.calls, self.rest, Did::Said(length));
+        self.rest = 0;
+        self.calls = self.calls.saturating_add(1);
+        Ok(())
+    }
+
+    // Records bytes that aren't said.
+    pub(crate) fn hush(&mut self, bytes: &[u8]) -> Result<(), AllocError>
+        ensures ok { OnOk result (self.new ≡ told bytes.now [] self.old) }
+        ensures err { OnErr result (self.new ≡ self.old) }
+    {
+        let bytes = Vec::from_slice(self.alloc, bytes)?;
+        self.record.reserve(1)?;
+        enter(&mut self.record, self.calls, self.rest, Did::Unsaid(bytes));
+        self.rest = 0;
+        self.calls = self.calls.saturating_add(1);
+        Ok(())
     }
 }
