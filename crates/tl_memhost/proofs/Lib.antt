@@ -1,3 +1,4 @@
 pub mod Counted
 pub mod Entered
 pub mod Held
+pub mod Telling

@@ -1,5 +1,5 @@
 -- What a host in memory is seen as: what stands at present, and what stood before each call that was recorded.
-use Rattle.std.specs.Prelude.{◌≡◌, ℕ, zero, suc, ◌+◌, ◌-◌, ◌^◌, ◌<◌, ◌≤◌, Bool, true, false, nat_le, nat_eq, if◌then◌else◌, List, [], ◌∷◌, ◌++◌, Option, None, Some, refl}
+use Rattle.std.specs.Prelude.{◌≡◌, ◌⊎◌, not, ℕ, zero, suc, ◌+◌, ◌-◌, ◌^◌, ◌<◌, ◌≤◌, Bool, true, false, nat_le, nat_eq, if◌then◌else◌, List, [], ◌∷◌, ◌++◌, Option, None, Some, refl}
 use Rattle.std.specs.List.{list_any}
 use Rattle.std.specs.FinMap as map
 use Rattle.std.specs.FinSet as set
@@ -144,3 +144,12 @@ memory_code = code_by (List Step × (ℕ × (Standing × (ℕ × (ℕ × (List �
     (λ m. (m.steps, (m.rest, (m.present, (m.calls, (m.short, (m.failing, (m.syncs, m.faults))))))))
     (λ p. record { steps = p.0; rest = p.1.0; present = p.1.1.0; calls = p.1.1.1.0; short = p.1.1.1.1.0; failing = p.1.1.1.1.1.0; syncs = p.1.1.1.1.1.1.0; faults = p.1.1.1.1.1.1.1 })
     (λ _. refl)
+
+-- what a call of the host does: what it is to do, where it isn't named; it fails as a named call does; or it found no
+-- memory
+abbrev pub Outcome : Bool → Memory → Memory → Memory → Memory → Memory → Type 0
+Outcome ok old new done refused short = ((is_named old ≡ false) × (ok ≡ true) × (new ≡ done)) ⊎ (((is_named old ≡ true) × (ok ≡ false) × (new ≡ refused)) ⊎ ((ok ≡ false) × (new ≡ short)))
+
+-- a call that only looks fails exactly where it is named
+abbrev pub Looks : Bool → Memory → Memory → Type 0
+Looks ok old new = (ok ≡ not (is_named old)) × (new ≡ (if is_named old then failed (looked old) else looked old))

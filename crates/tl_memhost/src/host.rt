@@ -1,8 +1,9 @@
 // A host in memory.
-ghost use Rattle.std.specs.Prelude.{◌≡◌, ◌≤◌, ◌<◌, ◌+◌, ◌-◌, ◌^◌, ◌++◌, ◌∷◌, ◌⊎◌, [], length, IfOk, OnOk, OnErr, IsSome, if◌then◌else◌};
+ghost use Rattle.std.specs.Prelude.{◌≡◌, ◌≤◌, ◌<◌, ◌+◌, ◌-◌, ◌^◌, ◌++◌, ◌∷◌, ◌⊎◌, [], length, IfOk, IfSome, OnOk, OnErr, IsSome, None, Some, take, if◌then◌else◌};
 ghost use Rattle.std.specs.Option.{option_map, unwrap_or};
 ghost use Rattle.std.specs.FinMap as map;
-ghost use Rattle.tl_model.specs.Volume.{at};
+ghost use Rattle.std.specs.Vec.{vec_capacity};
+ghost use Rattle.tl_model.specs.Volume.{at, IsNext};
 ghost use Rattle.tl_model.specs.Seen.{changing, moment};
 ghost use Rattle.tl_path.specs.Path.{IsPath};
 ghost use Rattle.tl_memhost.specs.Memory.{seen, moment_of, before_call, is_named, looked, failed, lost, changed, settled, synced, told};
@@ -199,4 +200,49 @@ impl MemHost {
         self.calls = self.calls.saturating_add(1);
         Ok(())
     }
+
+    // Writes the least name of all, and gives its length.
+    pub(crate) fn find_first(&self, name: &mut [u8; 1024]) -> Option<usize>
+        ensures next { IsNext self.now.present.held None (option_map (λ count. take count name.new) result) }
+        ensures path { IfSome result (λ count. (count ≤ 1024) × IsPath (take count name.new)) }
+    {
+        written(self.files.next(None), name)
+    }
+
+    // Writes the least name after a path, and gives its length.
+    pub(crate) fn find_after(&mut self, after: &[u8], name: &mut [u8; 1024]) -> Option<usize>
+        requires { length after.now ≤ 1024 }
+        ensures next { IsNext self.old.present.held (Some after.now) (option_map (λ count. take count name.new) result) }
+        ensures path { IfSome result (λ count. (count ≤ 1024) × IsPath (take count name.new)) }
+        ensures same { self.new ≡ self.old }
+    {
+        sought(&mut self.seek, after);
+        written(self.files.next(Some(&self.seek)), name)
+    }
+}
+
+// Makes the buffer hold a name.
+fn sought(seek: &mut Vec<u8>, name: &[u8])
+    requires { length name.now ≤ vec_capacity seek.old }
+    ensures name { seek.new.items ≡ name.now }
+    ensures room { vec_capacity seek.old ≤ vec_capacity seek.new }
+{
+    seek.clear();
+    match seek.extend_from_slice(name) {
+        Ok(()) => (),
+        Err(_) => unreachable!(),
+    }
+}
+
+// Writes a path that was found, and gives its length.
+fn written(found: Option<&[u8]>, name: &mut [u8; 1024]) -> Option<usize>
+    requires { IfSome found (λ path. IsPath path.now) }
+    ensures same { option_map (λ count. take count name.new) result ≡ option_map (λ path. path.now) found.entry }
+    ensures bound { IfSome result (λ count. count ≤ 1024) }
+    ensures path { IfSome result (λ count. IsPath (take count name.new)) }
+{
+    let path = found?;
+    let count = path.len();
+    name[..count].copy_from_slice(path);
+    Some(count)
 }

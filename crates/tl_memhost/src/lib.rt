@@ -1,6 +1,7 @@
 //! A host, a shelf and a source in memory. They tell what they hold, and fail where they are told to.
 #![tactic(auto)]
 
+mod calls;
 mod changes;
 mod files;
 mod host;
