@@ -1,3 +1,4 @@
+pub mod Given
 pub mod Held
 pub mod Memory
 pub mod Record

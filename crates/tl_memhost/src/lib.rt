@@ -4,7 +4,9 @@
 mod calls;
 mod changes;
 mod files;
+mod given;
 mod host;
 mod record;
 
+pub use given::{Bytes, FileBytes, MemError};
 pub use host::MemHost;
