@@ -1,15 +1,17 @@
 // A host in memory.
-ghost use Rattle.std.specs.Prelude.{◌≡◌, ◌≤◌, ◌<◌, ◌+◌, ◌-◌, ◌^◌, ◌++◌, ◌∷◌, ◌⊎◌, [], length, IfOk, IfSome, OnOk, OnErr, IsSome, None, Some, take, if◌then◌else◌};
+ghost use Rattle.std.specs.Prelude.{◌≡◌, ◌≤◌, ◌<◌, ◌+◌, ◌-◌, ◌^◌, ◌++◌, ◌∷◌, ◌⊎◌, [], length, IfOk, IfErr, IfSome, OnOk, OnErr, IsSome, None, Some, take, if◌then◌else◌};
 ghost use Rattle.std.specs.Option.{option_map, unwrap_or};
 ghost use Rattle.std.specs.FinMap as map;
 ghost use Rattle.std.specs.Vec.{vec_capacity};
 ghost use Rattle.tl_model.specs.Volume.{at, IsNext};
-ghost use Rattle.tl_model.specs.Seen.{changing, moment};
+ghost use Rattle.tl_model.specs.Seen.{moment};
 ghost use Rattle.tl_path.specs.Path.{IsPath};
-ghost use Rattle.tl_memhost.specs.Memory.{seen, moment_of, before_call, is_named, looked, failed, lost, changed, settled, synced, told};
+ghost use Rattle.tl_memhost.specs.Given.{given, AreApart, IsRefusal};
+ghost use Rattle.tl_memhost.specs.Memory.{fresh, seen, before_call, is_named, looked, failed, lost, changed, settled, synced, told};
 
 use crate::changes::enter;
 use crate::files::Files;
+use crate::given::{FileBytes, MemError, files_of};
 use crate::record::{Did, Entry};
 use std::alloc::{AllocError, Global};
 use std::marker::Model;
@@ -50,11 +52,106 @@ impl Model for MemHost {
 }
 
 impl MemHost {
-    /// The number of calls of `Host` so far.
+    /// A host of these files, with no touched name, no call, no fault and nothing said. `Repeated` exactly where two
+    /// files have one path: it is that of the first file whose path an earlier one has.
+    pub fn new(alloc: Global, files: Vec<FileBytes>) -> Result<MemHost, MemError>
+        ensures made { IfOk result (λ host. host ≡ fresh (given files.items)) }
+        ensures apart { OnOk result (AreApart files.items) }
+        ensures refused { IfErr result (IsRefusal files.items) }
+    {
+        let files = files_of(alloc, files)?;
+        match MemHost::with(alloc, files) {
+            Ok(host) => Ok(host),
+            Err(_) => Err(MemError::NoMemory),
+        }
+    }
+
+    // A host of these files.
+    pub(crate) fn with(alloc: Global, files: Files) -> Result<MemHost, AllocError>
+        ensures { IfOk result (λ host. host ≡ fresh files) }
+    {
+        let seek = Vec::with_capacity(alloc, 1024)?;
+        Ok(MemHost {
+            alloc,
+            files,
+            said: Vec::new(alloc),
+            record: Vec::new(alloc),
+            rest: 0,
+            calls: 0,
+            short: 0,
+            failing: Vec::new(alloc),
+            syncs: 0,
+            faults: 0,
+            seek,
+        })
+    }
+
+    /// Makes the call of this number fail, counted from 0. Several may be named.
+    pub fn fail_at(&mut self, call: u64) -> Result<(), AllocError>
+        ensures ok { OnOk result (self.new ≡ record self.old { failing = self.old.failing ++ call ∷ [] }) }
+        ensures err { OnErr result (self.new ≡ self.old) }
+    {
+        match self.failing.push(call) {
+            Ok(()) => Ok(()),
+            Err(_) => Err(AllocError),
+        }
+    }
+
+    /// The number of calls of `Host` so far. Each of them but those that found no memory is one moment; at the greatest
+    /// `u64` the number stands still.
     pub fn calls(&self) -> u64
         ensures calls { result ≡ self.now.calls }
+        ensures moments { result < 2 ^ 64 - 1 → moment (seen self.now) + self.now.short ≡ result }
     {
         self.calls
+    }
+
+    /// The number of calls of `Host` that failed because there was no memory for the record.
+    pub fn short(&self) -> u64
+        ensures { result ≡ self.now.short }
+    {
+        self.short
+    }
+
+    /// The bytes said.
+    pub fn said(&self) -> &[u8]
+        ensures { result.now ≡ (seen self.now).present.said }
+    {
+        self.said.as_slice()
+    }
+
+    /// What a file holds; `None` exactly where the path is absent.
+    pub fn file(&self, path: &Path) -> Option<&[u8]>
+        ensures { option_map (λ bytes. bytes.now) result ≡ at (seen self.now).present.held path.now }
+    {
+        self.files.get(path.bytes())
+    }
+
+    /// The count of syncs.
+    pub fn syncs(&self) -> u64
+        ensures { result ≡ (seen self.now).syncs }
+    {
+        self.syncs
+    }
+
+    /// The number of bytes said before the call of this number.
+    pub fn said_before(&self, call: u64) -> u64
+        requires { call ≤ self.now.calls }
+        ensures { result ≡ length (before_call self.now call).said }
+    {
+        let mut said = self.said.as_slice().len();
+        let mut left = self.record.as_slice().len();
+        while left > 0 {
+            let entry = &self.record[left - 1];
+            if entry.call < call {
+                break;
+            }
+            if let Did::Said(length) = &entry.did {
+                said = *length;
+            }
+            left -= 1;
+        }
+        said as u64
     }
 
     // Whether the next call is to fail.
