@@ -1,4 +1,5 @@
 pub mod Apart
+pub mod Back
 pub mod Counted
 pub mod Entered
 pub mod Held

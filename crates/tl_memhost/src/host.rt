@@ -12,7 +12,7 @@ ghost use Rattle.tl_memhost.specs.Memory.{fresh, seen, before_call, is_named, lo
 use crate::changes::enter;
 use crate::files::Files;
 use crate::given::{FileBytes, MemError, files_of};
-use crate::record::{Did, Entry};
+use crate::record::{Did, Entry, unsaid};
 use std::alloc::{AllocError, Global};
 use std::marker::Model;
 use tl_host::Failed;
@@ -146,9 +146,7 @@ impl MemHost {
             if entry.call < call {
                 break;
             }
-            if let Did::Said(length) = &entry.did {
-                said = *length;
-            }
+            said = unsaid(&entry.did, said);
             left -= 1;
         }
         said as u64

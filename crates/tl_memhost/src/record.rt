@@ -1,5 +1,8 @@
 // The record of a host's calls. Each entry keeps what is needed to go back over its call, so that a change copies no file.
 
+ghost use Rattle.std.specs.Prelude.{◌≡◌, ℕ, List, length};
+ghost use Rattle.tl_memhost.specs.Record.{unsaid};
+
 // What a call did.
 #[derive(Drop)]
 pub(crate) enum Did {
@@ -23,4 +26,14 @@ pub(crate) struct Entry {
     pub(crate) call: u64,
     pub(crate) rest: u64,
     pub(crate) did: Did,
+}
+
+// How many bytes were said before a call, by how many are said after it.
+pub(crate) fn unsaid(did: &Did, said: usize) -> usize
+    ensures { (bytes : List ℕ) → said ≡ length bytes → result ≡ length (unsaid did.now bytes) }
+{
+    match did {
+        Did::Said(length) => said.min(*length),
+        _ => said,
+    }
 }
