@@ -1,4 +1,6 @@
+pub mod Devices
 pub mod Given
 pub mod Held
 pub mod Memory
 pub mod Record
+pub mod Shelves

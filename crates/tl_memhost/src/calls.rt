@@ -8,23 +8,10 @@ ghost use Rattle.tl_model.specs.Causes.{HasCause};
 ghost use Rattle.tl_path.specs.Path.{IsPath};
 ghost use Rattle.tl_memhost.specs.Memory.{seen, looked, changed, settled, synced, told, failed, lost, Outcome, Looks};
 
+use crate::fill::fill;
 use crate::host::MemHost;
 use tl_host::{Failed, Host};
 use tl_path::PathRef;
-
-// So many bytes of these from a place on, as many as there are and the buffer has.
-fn fill(bytes: &[u8], from: u64, into: &mut [u8]) -> usize
-    ensures count { result ≡ length (take (length into.old) (drop from bytes.now)) }
-    ensures bytes { take result into.new ≡ take (length into.old) (drop from bytes.now) }
-{
-    if from >= bytes.len() as u64 {
-        return 0;
-    }
-    let rest = &bytes[from as usize..];
-    let count = rest.len().min(into.len());
-    into[..count].copy_from_slice(&rest[..count]);
-    count
-}
 
 impl MemHost {
     // Answers a call that found no memory.

@@ -4,9 +4,14 @@
 mod calls;
 mod changes;
 mod files;
+mod fill;
 mod given;
 mod host;
 mod record;
+mod shelf;
+mod source;
 
 pub use given::{Bytes, FileBytes, MemError};
 pub use host::MemHost;
+pub use shelf::MemShelf;
+pub use source::MemSource;
