@@ -9,7 +9,7 @@ use Rattle.tl_model.specs.Causes.{one_more}
 use Rattle.tl_model.specs.Volume.{Name, Volume, SameBut, at, cases_name, same_volume, at-insert_here, at-insert_apart, at-remove_here, at-remove_apart}
 use Rattle.tl_memhost.specs.Held.{Bytes}
 use Rattle.tl_memhost.specs.Memory.{Standing, Step, Memory, IsCounted, moment_of, recorded, changed}
-use Rattle.tl_memhost.specs.Record.{put, unheld, unsaid, touches, settles, touched_of, settled_of, standing, during, step_of, steps_of, memory}
+use Rattle.tl_memhost.specs.Record.{put, cut, unheld, unsaid, touches, settles, touched_of, settled_of, standing, during, step_of, steps_of, memory}
 use Rattle.tl_memhost.specs.declared.record.Did.{Did}
 use Rattle.tl_memhost.specs.declared.record.Did.TheVariants.{Put, Grown}
 use Rattle.tl_memhost.specs.declared.record.Entry.{Entry}
@@ -64,35 +64,32 @@ some_is None some = absurd (true≢false (sym some))
 some_is (Some x) some = refl
 
 pub cut_back : (old : Volume) (name : Name) (bytes : List ℕ) (length_before : ℕ) → IsSome (at old name) → length_before ≡ length (unwrap_or (at old name) [])
-    → map.insert (map.insert old name (unwrap_or (at old name) [] ++ bytes)) name (take length_before (unwrap_or (at (map.insert old name (unwrap_or (at old name) [] ++ bytes)) name) [])) ≡ old
+    → cut name length_before (at (map.insert old name (unwrap_or (at old name) [] ++ bytes)) name) (map.insert old name (unwrap_or (at old name) [] ++ bytes)) ≡ old
 cut_back old name bytes n some is =
-    let here : take n (unwrap_or (at (map.insert old name (unwrap_or (at old name) [] ++ bytes)) name) []) ≡ unwrap_or (at old name) [] =
-      ap (λ (o : Option (List ℕ)). take n (unwrap_or o [])) (at-insert_here old name (unwrap_or (at old name) [] ++ bytes))
-      ∙ ap (λ (k : ℕ). take k (unwrap_or (at old name) [] ++ bytes)) is
-      ∙ take-append_seam (unwrap_or (at old name) []) bytes in
-    insert-twice old name _ _
-    ∙ ap (map.insert old name) here
+    ap (λ (o : Option (List ℕ)). cut name n o (map.insert old name (unwrap_or (at old name) [] ++ bytes))) (at-insert_here old name (unwrap_or (at old name) [] ++ bytes))
+    ∙ insert-twice old name _ _
+    ∙ ap (map.insert old name) (ap (λ (k : ℕ). take k (unwrap_or (at old name) [] ++ bytes)) is ∙ take-append_seam (unwrap_or (at old name) []) bytes)
     ∙ insert-same old name (unwrap_or (at old name) []) (some_is (at old name) some)
 
 -- a change of one name, recorded
 
-pub put_entered : (items items' : List Entry) (own : Bytes) (bytes : Option Bytes) (old new : Volume) (said : List ℕ) (rest calls calls' short : ℕ) (failing : List ℕ) (syncs faults : ℕ) (name : Name)
-    → own.items ≡ name → contents bytes ≡ at old name → SameBut name old new → items' ≡ items ++ entry calls rest (Put own bytes) ∷ [] → calls' ≡ one_more calls
+pub put_entered : (items items' : List Entry) (own : Name) (bytes : Option Bytes) (old new : Volume) (said : List ℕ) (rest calls calls' short : ℕ) (failing : List ℕ) (syncs faults : ℕ) (name : Name)
+    → own ≡ name → contents bytes ≡ at old name → SameBut name old new → items' ≡ items ++ entry calls rest (Put own bytes) ∷ [] → calls' ≡ one_more calls
     → memory items' new said 0 calls' short failing syncs faults ≡ changed name new (memory items old said rest calls short failing syncs faults)
 put_entered items items' own bytes old new said rest calls calls' short failing syncs faults name named is same list count =
-    let back : put own.items bytes new ≡ old = subst (λ (n : Name). put n bytes new ≡ old) (sym named) (put_back old new name bytes is same) in
+    let back : put own bytes new ≡ old = subst (λ (n : Name). put n bytes new ≡ old) (sym named) (put_back old new name bytes is same) in
     ap (λ (es : List Entry). memory es new said 0 calls' short failing syncs faults) list
     ∙ ap (λ (n : ℕ). memory (items ++ entry calls rest (Put own bytes) ∷ []) new said 0 n short failing syncs faults) count
     ∙ entered items (Put own bytes) old new said said rest calls short failing syncs faults back refl
     ∙ ap (λ (n : Name). changed n new (memory items old said rest calls short failing syncs faults)) named
 
-pub grown_entered : (items items' : List Entry) (own : Bytes) (bytes : List ℕ) (n : ℕ) (old new : Volume) (said : List ℕ) (rest calls calls' short : ℕ) (failing : List ℕ) (syncs faults : ℕ) (name : Name)
-    → own.items ≡ name → IsSome (at old name) → n ≡ length (unwrap_or (at old name) []) → new ≡ map.insert old name (unwrap_or (at old name) [] ++ bytes) → items' ≡ items ++ entry calls rest (Grown own n) ∷ [] → calls' ≡ one_more calls
+pub grown_entered : (items items' : List Entry) (own : Name) (bytes : List ℕ) (n : ℕ) (old new : Volume) (said : List ℕ) (rest calls calls' short : ℕ) (failing : List ℕ) (syncs faults : ℕ) (name : Name)
+    → own ≡ name → IsSome (at old name) → n ≡ length (unwrap_or (at old name) []) → new ≡ map.insert old name (unwrap_or (at old name) [] ++ bytes) → items' ≡ items ++ entry calls rest (Grown own n) ∷ [] → calls' ≡ one_more calls
     → memory items' new said 0 calls' short failing syncs faults ≡ changed name new (memory items old said rest calls short failing syncs faults)
 grown_entered items items' own bytes n old new said rest calls calls' short failing syncs faults name named some is grown list count =
-    let back : map.insert new own.items (take n (unwrap_or (at new own.items) [])) ≡ old =
-      subst (λ (k : Name). map.insert new k (take n (unwrap_or (at new k) [])) ≡ old) (sym named)
-      (subst (λ (v : Volume). map.insert v name (take n (unwrap_or (at v name) [])) ≡ old) (sym grown) (cut_back old name bytes n some is)) in
+    let back : cut own n (at new own) new ≡ old =
+      subst (λ (k : Name). cut k n (at new k) new ≡ old) (sym named)
+      (subst (λ (v : Volume). cut name n (at v name) v ≡ old) (sym grown) (cut_back old name bytes n some is)) in
     ap (λ (es : List Entry). memory es new said 0 calls' short failing syncs faults) list
     ∙ ap (λ (k : ℕ). memory (items ++ entry calls rest (Grown own n) ∷ []) new said 0 k short failing syncs faults) count
     ∙ entered items (Grown own n) old new said said rest calls short failing syncs faults back refl

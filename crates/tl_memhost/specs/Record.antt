@@ -1,6 +1,5 @@
 -- What a record of calls says, with what is held now: each entry says how to go back over its call.
 use Rattle.std.specs.Prelude.{ℕ, List, [], ◌∷◌, take, drop, reverse, Option, Some, None, Vec}
-use Rattle.std.specs.Option.{unwrap_or}
 use Rattle.std.specs.declared.alloc.Global.{Global}
 use Rattle.std.specs.FinMap as map
 use Rattle.std.specs.FinSet as set
@@ -16,10 +15,15 @@ abbrev pub put : Name → Option (Vec ℕ Global) → Volume → Volume
 put name None volume = map.remove volume name
 put name (Some bytes) volume = map.insert volume name bytes.items
 
+-- a file that is there is cut to its first bytes
+abbrev pub cut : Name → ℕ → Option (List ℕ) → Volume → Volume
+cut name length None volume = volume
+cut name length (Some bytes) volume = map.insert volume name (take length bytes)
+
 -- what was held before a call, by what is held after it
 abbrev pub unheld : Did → Volume → Volume
-unheld (Put name bytes) volume = put name.items bytes volume
-unheld (Grown name length) volume = map.insert volume name.items (take length (unwrap_or (at volume name.items) []))
+unheld (Put name bytes) volume = put name bytes volume
+unheld (Grown name length) volume = cut name length (at volume name) volume
 unheld (Failing name) volume = volume
 unheld Synced volume = volume
 unheld (Said length) volume = volume
@@ -36,9 +40,9 @@ unsaid (Unsaid bytes) said = said
 
 -- the names touched after a call
 abbrev pub touches : Did → Names → Names
-touches (Put name bytes) names = set.insert names name.items
-touches (Grown name length) names = set.insert names name.items
-touches (Failing name) names = set.insert names name.items
+touches (Put name bytes) names = set.insert names name
+touches (Grown name length) names = set.insert names name
+touches (Failing name) names = set.insert names name
 touches Synced names = set.empty
 touches (Said length) names = names
 touches (Unsaid bytes) names = names
@@ -69,9 +73,9 @@ standing es held said = record { held = held; touched = touched_of es; said = sa
 
 -- what stands within a call, by what is said after it and what stood before it
 abbrev pub during : Did → List ℕ → Standing → Stretch
-during (Put name bytes) said s = changing name.items (moment_of s)
-during (Grown name length) said s = changing name.items (moment_of s)
-during (Failing name) said s = changing name.items (moment_of s)
+during (Put name bytes) said s = changing name (moment_of s)
+during (Grown name length) said s = changing name (moment_of s)
+during (Failing name) said s = changing name (moment_of s)
 during Synced said s = at_rest (moment_of s)
 during (Said length) said s = saying (drop length said) (moment_of s)
 during (Unsaid bytes) said s = saying bytes.items (moment_of s)

@@ -25,6 +25,7 @@ impl MemHost {
 
     // Answers a change of a name that is to fail.
     fn refuse(&mut self, name: &[u8]) -> Result<(), Failed>
+        requires { IsPath name.now }
         ensures refused { (self.new ≡ failed (changed name.now self.old.present.held self.old)) ⊎ (self.new ≡ lost self.old) }
         ensures failed { is_ok result ≡ false }
     {

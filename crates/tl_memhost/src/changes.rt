@@ -1,15 +1,9 @@
-// The changes that a host in memory makes and records.
-ghost use Rattle.std.specs.Prelude.{◌≡◌, ◌<◌, ◌++◌, ◌∷◌, [], OnOk, OnErr, IsSome};
-ghost use Rattle.std.specs.Option.{unwrap_or};
+// What an entry of the record says.
+ghost use Rattle.std.specs.Prelude.{◌≡◌, ◌<◌, ◌++◌, ◌∷◌, [], ℕ, List, length};
 ghost use Rattle.std.specs.Vec.{vec_len, vec_capacity};
-ghost use Rattle.std.specs.FinMap as map;
-ghost use Rattle.tl_model.specs.Volume.{at};
-ghost use Rattle.tl_path.specs.Path.{IsPath};
-ghost use Rattle.tl_memhost.specs.Memory.{changed, settled, told};
+ghost use Rattle.tl_memhost.specs.Record.{unsaid};
 
-use crate::host::MemHost;
 use crate::record::{Did, Entry};
-use std::alloc::AllocError;
 
 // Adds an entry where there is room.
 pub(crate) fn enter(record: &mut Vec<Entry>, call: u64, rest: u64, did: Did)
@@ -19,5 +13,15 @@ pub(crate) fn enter(record: &mut Vec<Entry>, call: u64, rest: u64, did: Did)
     match record.push(Entry { call, rest, did }) {
         Ok(()) => (),
         Err(_) => unreachable!(),
+    }
+}
+
+// How many bytes were said before a call, by how many are said after it.
+pub(crate) fn unsaid(did: &Did, said: usize) -> usize
+    ensures { (bytes : List ℕ) → said ≡ length bytes → result ≡ length (unsaid did.now bytes) }
+{
+    match did {
+        Did::Said(length) => said.min(*length),
+        _ => said,
     }
 }

@@ -6,6 +6,7 @@ ghost use Rattle.std.specs.FinMap as map;
 ghost use Rattle.tl_model.specs.Volume.{at, IsNext};
 ghost use Rattle.tl_path.specs.Path.{IsPath};
 
+use crate::record::Did;
 use std::alloc::{AllocError, Global};
 use std::collections::BTreeMap;
 use std::ops::Bound;
@@ -41,6 +42,8 @@ fn first_from<'a>(held: &'a BTreeMap<Vec<u8>, Vec<u8>>, start: Bound<&Vec<u8>>) 
 }
 
 impl Files {
+    ghost use Rattle.tl_memhost.specs.Record.{cut, unheld};
+
     pub(crate) fn new(alloc: Global) -> Files
         ensures { result ≡ map.empty }
     {
@@ -112,8 +115,7 @@ impl Files {
 
     // Cuts a file that is there to its first bytes.
     pub(crate) fn cut(&mut self, name: &[u8], length: usize)
-        ensures { MatchOption (at self.old name.now) (self.new ≡ self.old)
-            (λ bytes. self.new ≡ map.insert self.old name.now (take length bytes)) }
+        ensures { self.new ≡ cut name.now length (at self.old name.now) self.old }
     {
         match self.held.get_mut(name) {
             Some(file) => {
@@ -122,5 +124,42 @@ impl Files {
             }
             None => return,
         }
+    }
+
+    // Makes a name hold a copy of these bytes.
+    pub(crate) fn set(&mut self, alloc: Global, name: &[u8], bytes: &[u8]) -> Result<(), AllocError>
+        requires { IsPath name.now }
+        ensures ok { OnOk result (self.new ≡ map.insert self.old name.now bytes.now) }
+    {
+        let name = Vec::from_slice(alloc, name)?;
+        let bytes = Vec::from_slice(alloc, bytes)?;
+        self.insert(name, bytes)?;
+        Ok(())
+    }
+
+    // Goes back over a call.
+    pub(crate) fn undo(&mut self, alloc: Global, did: &Did) -> Result<(), AllocError>
+        ensures ok { OnOk result (self.new ≡ unheld did.now self.old) }
+    {
+        match did {
+            Did::Put(name, Some(bytes)) => self.set(alloc, name.bytes(), bytes.as_slice()),
+            Did::Put(name, None) => {
+                let _ = self.remove(name.bytes());
+                Ok(())
+            }
+            Did::Grown(name, length) => {
+                self.cut(name.bytes(), *length);
+                Ok(())
+            }
+            _ => Ok(()),
+        }
+    }
+
+    // The same files.
+    pub(crate) fn copy(&self) -> Result<Files, AllocError>
+        ensures { IfOk result (λ files. files ≡ self.now) }
+    {
+        let held = self.held.clone()?;
+        Ok(Files { held })
     }
 }

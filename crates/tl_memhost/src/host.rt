@@ -9,10 +9,10 @@ ghost use Rattle.tl_path.specs.Path.{IsPath};
 ghost use Rattle.tl_memhost.specs.Given.{given, AreApart, IsRefusal};
 ghost use Rattle.tl_memhost.specs.Memory.{fresh, seen, before_call, is_named, looked, failed, lost, changed, settled, synced, told};
 
-use crate::changes::enter;
+use crate::changes::{enter, unsaid};
 use crate::files::Files;
 use crate::given::{FileBytes, MemError, files_of};
-use crate::record::{Did, Entry, unsaid};
+use crate::record::{Did, Entry, Named};
 use std::alloc::{AllocError, Global};
 use std::marker::Model;
 use tl_host::Failed;
@@ -199,10 +199,11 @@ impl MemHost {
 
     // Records a change of a name that fails.
     pub(crate) fn touch(&mut self, name: &[u8]) -> Result<(), AllocError>
+        requires { IsPath name.now }
         ensures ok { OnOk result (self.new ≡ changed name.now self.old.present.held self.old) }
         ensures err { OnErr result (self.new ≡ self.old) }
     {
-        let name = Vec::from_slice(self.alloc, name)?;
+        let name = Named::of(self.alloc, name)?;
         self.record.reserve(1)?;
         enter(&mut self.record, self.calls, self.rest, Did::Failing(name));
         self.rest = 0;
@@ -217,7 +218,7 @@ impl MemHost {
         ensures err { OnErr result (self.new ≡ self.old) }
     {
         let key = Vec::from_slice(self.alloc, name)?;
-        let name = Vec::from_slice(self.alloc, name)?;
+        let name = Named::of(self.alloc, name)?;
         self.record.reserve(1)?;
         let before = self.files.insert(key, Vec::new(self.alloc))?;
         enter(&mut self.record, self.calls, self.rest, Did::Put(name, before));
@@ -228,10 +229,11 @@ impl MemHost {
 
     // Makes the name absent.
     pub(crate) fn clear(&mut self, name: &[u8]) -> Result<(), AllocError>
+        requires { IsPath name.now }
         ensures ok { OnOk result (self.new ≡ changed name.now (map.remove self.old.present.held name.now) self.old) }
         ensures err { OnErr result (self.new ≡ self.old) }
     {
-        let gone = Vec::from_slice(self.alloc, name)?;
+        let gone = Named::of(self.alloc, name)?;
         self.record.reserve(1)?;
         let before = self.files.remove(name);
         enter(&mut self.record, self.calls, self.rest, Did::Put(gone, before));
@@ -242,12 +244,13 @@ impl MemHost {
 
     // Adds bytes at the end of a file that is there.
     pub(crate) fn grow(&mut self, name: &[u8], bytes: &[u8]) -> Result<(), AllocError>
-        requires { IsSome (at self.old.present.held name.now) }
+        requires path { IsPath name.now }
+        requires present { IsSome (at self.old.present.held name.now) }
         ensures ok { OnOk result (self.new ≡ changed name.now
             (map.insert self.old.present.held name.now (unwrap_or (at self.old.present.held name.now) [] ++ bytes.now)) self.old) }
         ensures err { OnErr result (self.new ≡ self.old) }
     {
-        let grown = Vec::from_slice(self.alloc, name)?;
+        let grown = Named::of(self.alloc, name)?;
         self.record.reserve(1)?;
         let length = self.files.append(name, bytes)?;
         enter(&mut self.record, self.calls, self.rest, Did::Grown(grown, length));

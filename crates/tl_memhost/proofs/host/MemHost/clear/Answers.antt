@@ -18,7 +18,7 @@ returns-clause-ok c =
     let new : c.remove-before.new.self ≡ map.remove h.files name = c.remove-before.ensures.removed in
     let same : SameBut name h.files c.remove-before.new.self = λ other ne. ap (λ (v : Volume). at v other) new ∙ at-remove_apart h.files name other ne in
     let list : c.enter.new.record.items ≡ h.record.items ++ entry h.calls h.rest (Put c.in_ok-gone.gone c.remove-before.result) ∷ [] = c.enter.ensures ∙ ap (λ (es : List Entry). es ++ entry h.calls h.rest (Put c.in_ok-gone.gone c.remove-before.result) ∷ []) c.in_ok-reserve.ensures.items in
-    put_entered h.record.items _ c.in_ok-gone.gone c.remove-before.result h.files c.remove-before.new.self h.said.items h.rest h.calls _ h.short h.failing.items h.syncs h.faults name c.in_ok-gone.ensures.items c.remove-before.ensures.before same list (omega arith)
+    put_entered h.record.items _ c.in_ok-gone.gone c.remove-before.result h.files c.remove-before.new.self h.said.items h.rest h.calls _ h.short h.failing.items h.syncs h.faults name c.in_ok-gone.ensures c.remove-before.ensures.before same list (omega arith)
     ∙ ap (λ (v : Volume). changed name v (memory h.record.items h.files h.said.items h.rest h.calls h.short h.failing.items h.syncs h.faults)) new
     ∙ ap (λ (m : Memory). changed name (map.remove m.present.held name) m) c.self.view_is
 
@@ -29,4 +29,4 @@ invariant_of-self-2 c =
     let new : c.remove-before.new.self ≡ map.remove h.files name = c.remove-before.ensures.removed in
     let same : SameBut name h.files c.remove-before.new.self = λ other ne. ap (λ (v : Volume). at v other) new ∙ at-remove_apart h.files name other ne in
     let list : c.enter.new.record.items ≡ h.record.items ++ entry h.calls h.rest (Put c.in_ok-gone.gone c.remove-before.result) ∷ [] = c.enter.ensures ∙ ap (λ (es : List Entry). es ++ entry h.calls h.rest (Put c.in_ok-gone.gone c.remove-before.result) ∷ []) c.in_ok-reserve.ensures.items in
-    (counted_changed _ _ name _ (put_entered h.record.items _ c.in_ok-gone.gone c.remove-before.result h.files c.remove-before.new.self h.said.items h.rest h.calls _ h.short h.failing.items h.syncs h.faults name c.in_ok-gone.ensures.items c.remove-before.ensures.before same list (omega arith)) c.self.invariant.0, c.self.invariant.1)
+    (counted_changed _ _ name _ (put_entered h.record.items _ c.in_ok-gone.gone c.remove-before.result h.files c.remove-before.new.self h.said.items h.rest h.calls _ h.short h.failing.items h.syncs h.faults name c.in_ok-gone.ensures c.remove-before.ensures.before same list (omega arith)) c.self.invariant.0, c.self.invariant.1)

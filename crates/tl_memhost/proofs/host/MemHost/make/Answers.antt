@@ -18,7 +18,7 @@ returns-clause-ok c =
     let same : SameBut name h.files c.insert.new.self = λ other ne. ap (λ (v : Volume). at v other) new ∙ at-insert_apart h.files name [] other ne in
     let before : contents c.in_ok-before.before ≡ at h.files name = c.in_ok-before.ensures.before ∙ ap (λ (n : Name). at h.files n) c.in_ok-key.ensures.items in
     let list : c.enter.new.record.items ≡ h.record.items ++ entry h.calls h.rest (Put c.in_ok-name.name c.in_ok-before.before) ∷ [] = c.enter.ensures ∙ ap (λ (es : List Entry). es ++ entry h.calls h.rest (Put c.in_ok-name.name c.in_ok-before.before) ∷ []) c.in_ok-reserve.ensures.items in
-    put_entered h.record.items _ c.in_ok-name.name c.in_ok-before.before h.files c.insert.new.self h.said.items h.rest h.calls _ h.short h.failing.items h.syncs h.faults name c.in_ok-name.ensures.items before same list (omega arith)
+    put_entered h.record.items _ c.in_ok-name.name c.in_ok-before.before h.files c.insert.new.self h.said.items h.rest h.calls _ h.short h.failing.items h.syncs h.faults name c.in_ok-name.ensures before same list (omega arith)
     ∙ ap (λ (v : Volume). changed name v (memory h.record.items h.files h.said.items h.rest h.calls h.short h.failing.items h.syncs h.faults)) new
     ∙ ap (λ (m : Memory). changed name (map.insert m.present.held name []) m) c.self.view_is
 
@@ -30,4 +30,4 @@ invariant_of-self-2 c =
     let same : SameBut name h.files c.insert.new.self = λ other ne. ap (λ (v : Volume). at v other) new ∙ at-insert_apart h.files name [] other ne in
     let before : contents c.in_ok-before.before ≡ at h.files name = c.in_ok-before.ensures.before ∙ ap (λ (n : Name). at h.files n) c.in_ok-key.ensures.items in
     let list : c.enter.new.record.items ≡ h.record.items ++ entry h.calls h.rest (Put c.in_ok-name.name c.in_ok-before.before) ∷ [] = c.enter.ensures ∙ ap (λ (es : List Entry). es ++ entry h.calls h.rest (Put c.in_ok-name.name c.in_ok-before.before) ∷ []) c.in_ok-reserve.ensures.items in
-    (counted_changed _ _ name _ (put_entered h.record.items _ c.in_ok-name.name c.in_ok-before.before h.files c.insert.new.self h.said.items h.rest h.calls _ h.short h.failing.items h.syncs h.faults name c.in_ok-name.ensures.items before same list (omega arith)) c.self.invariant.0, c.self.invariant.1)
+    (counted_changed _ _ name _ (put_entered h.record.items _ c.in_ok-name.name c.in_ok-before.before h.files c.insert.new.self h.said.items h.rest h.calls _ h.short h.failing.items h.syncs h.faults name c.in_ok-name.ensures before same list (omega arith)) c.self.invariant.0, c.self.invariant.1)
