@@ -13,6 +13,8 @@ use Rattle.std.specs.declared.cmp.Ordering.TheVariants.{Less, Equal, Greater}
 use Rattle.std.specs.Cmp.Lexicographic.{slice_cmp, nat_list_cmp_total}
 use Rattle.std.specs.FinMap as map
 use Rattle.std.specs.FinMap.{slice_cmp-IsAntisymmetric, nat_cmp-IsAntisymmetric}
+use Rattle.std.specs.List.{AllZip, each_same}
+use Rattle.std.specs.Vec.{vec_len}
 use Rattle.std.specs.Map.{lookup, set_value, remove_entry}
 use Rattle.std.specs.BTreeMap.{is_at, insert_entry}
 use Rattle.std.proofs.lemmas.Bool.{cases_Bool, true≢false}
@@ -212,3 +214,15 @@ first_some start m r rest e name is same range =
 pub named : (start : Bound (Bor Bytes)) (es : List (Bytes × Bytes)) (found : Option (Bor (List ℕ))) → IsFirstFrom start es (option_map (λ (n : Bor (List ℕ)). n.now) found) → ArePaths es → IfSome found (λ n. IsPath n.now)
 named start es None first all = tt
 named start es (Some n) first all = path_found es n.now all first.0
+
+-- a copy holds the same
+pub copied : (es fs : List (Bytes × Bytes)) → AllZip (λ (p : Bytes × Bytes) (q : Bytes × Bytes). (AllZip (λ (x y : ℕ). y ≡ x) p.0.items q.0.items × (vec_len q.0 ≡ vec_len p.0)) × (AllZip (λ (x y : ℕ). y ≡ x) p.1.items q.1.items × (vec_len q.1 ≡ vec_len p.1))) es fs → (volume_of fs ≡ volume_of es) × (ArePaths es → ArePaths fs)
+copied [] [] all = (refl, λ paths. tt)
+copied [] (f ∷ fs) all = absurd all
+copied (e ∷ es) [] all = absurd all
+copied (e ∷ es) (f ∷ fs) all =
+    let rest : (volume_of fs ≡ volume_of es) × (ArePaths es → ArePaths fs) = copied es fs all.1 in
+    let name : f.0.items ≡ e.0.items = each_same e.0.items f.0.items all.0.0.0 in
+    let bytes : f.1.items ≡ e.1.items = each_same e.1.items f.1.items all.0.1.0 in
+    ( ap (λ (v : Volume). map.insert v f.0.items f.1.items) rest.0 ∙ ap (λ (n : Name). map.insert (volume_of es) n f.1.items) name ∙ ap (map.insert (volume_of es) e.0.items) bytes
+    , λ paths. (subst IsPath (sym name) paths.0, rest.1 paths.1) )

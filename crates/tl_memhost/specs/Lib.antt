@@ -4,3 +4,4 @@ pub mod Held
 pub mod Memory
 pub mod Record
 pub mod Shelves
+pub mod Stop

@@ -10,8 +10,10 @@ mod host;
 mod record;
 mod shelf;
 mod source;
+mod stop;
 
 pub use given::{Bytes, FileBytes, MemError};
 pub use host::MemHost;
 pub use shelf::MemShelf;
 pub use source::MemSource;
+pub use stop::{Choice, StopError};
