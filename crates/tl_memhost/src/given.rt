@@ -1,0 +1,88 @@
+// The files that a device in memory is made of.
+ghost use Rattle.std.specs.Prelude.{◌≡◌, OnOk, IfOk, IfErr};
+ghost use Rattle.tl_memhost.specs.Given.{given, AreApart, IsRefusal};
+
+use crate::files::Files;
+use std::alloc::Global;
+use std::marker::Model;
+use tl_path::Path;
+
+/// The bytes of a file.
+#[derive(Debug, Drop)]
+pub struct Bytes {
+    items: Vec<u8>,
+}
+
+impl Model for Bytes {
+    ghost use Rattle.std.specs.Prelude.{List, ℕ};
+
+    ghost Value = { List ℕ };
+
+    ghost view = { λ b. b.items.items };
+}
+
+impl Bytes {
+    /// These bytes, without memory.
+    pub fn new(items: Vec<u8>) -> Bytes
+        ensures { result ≡ items.items }
+    {
+        Bytes { items }
+    }
+
+    /// The bytes.
+    pub fn as_slice(&self) -> &[u8]
+        ensures { result.now ≡ self.now }
+    {
+        self.items.as_slice()
+    }
+
+    /// The bytes, given back without memory.
+    pub fn into_vec(self) -> Vec<u8>
+        ensures { result.items ≡ self }
+    {
+        self.items
+    }
+}
+
+/// A file: its path and what it holds.
+#[derive(Drop)]
+pub struct FileBytes {
+    /// Its path.
+    pub path: Path,
+    /// What it holds.
+    pub bytes: Bytes,
+}
+
+/// Why a device isn't made.
+#[derive(Drop)]
+pub enum MemError {
+    /// This is the path of the first file whose path an earlier one has.
+    Repeated {
+        /// The path.
+        path: Path,
+    },
+    /// There was no memory.
+    NoMemory,
+}
+
+// The files by name.
+pub(crate) fn files_of(alloc: Global, files: Vec<FileBytes>) -> Result<Files, MemError>
+    ensures made { IfOk result (λ made. made ≡ given files.items) }
+    ensures apart { OnOk result (AreApart files.items) }
+    ensures refused { IfErr result (IsRefusal files.items) }
+{
+    let mut made = Files::new(alloc);
+    for file in files {
+        let FileBytes { path, bytes } = file;
+        let name = match Vec::from_slice(alloc, path.bytes()) {
+            Ok(name) => name,
+            Err(_) => return Err(MemError::NoMemory),
+        };
+        match made.insert(name, bytes.into_vec()) {
+            Ok(None) => (),
+            Ok(Some(_)) => return Err(MemError::Repeated { path }),
+            Err(_) => return Err(MemError::NoMemory),
+        }
+    }
+    Ok(made)
+}
