@@ -1,5 +1,5 @@
 -- From what was seen of a host to the run that was made.
-use Rattle.std.proofs.Common.{◌≡◌, ℕ, Bool, true, false, cond, List, [], ◌∷◌, ◌++◌, take, drop, Option, Some, None, refl, sym, ◌∙◌, ap, subst, inl, inr, append_assoc, arith}
+use Rattle.std.proofs.Common.{min, ◌≡◌, ℕ, Bool, true, false, cond, List, [], ◌∷◌, ◌++◌, take, drop, Option, Some, None, refl, sym, ◌∙◌, ap, subst, inl, inr, append_assoc, arith}
 use Rattle.std.proofs.lemmas.List.{append-nil, take-append-drop}
 use Rattle.std.specs.Option.{is_none}
 use Rattle.tl_model.specs.Volume.{Volume, at}
@@ -9,7 +9,11 @@ use Rattle.tl_words.specs.declared.command.Action.{Action}
 use Rattle.tl_words.specs.declared.command.Action.TheVariants.{DumpTlpdb}
 use Rattle.tl_words.specs.declared.faults.Fault.{Fault}
 use Rattle.tl_words.specs.Faults.{words_fault}
+use Rattle.tl_words.specs.Errors.{IsErrorOf}
+use Rattle.tl_words.specs.declared.error.WordKind.{WordKind}
+use Rattle.tl_words.specs.declared.error.WordsError.TheVariants.{BadWords as BadWordsError}
 use Rattle.tl_tool.proofs.Plain.{plain-unbuilt, plain-bad_words}
+use Rattle.tl_model.specs.Acks.{IsPlain}
 use Rattle.tl_model.specs.Trace.{Text, said_by, AreLines, IsFront, Pictures, Trace, Cut, Paused}
 use Rattle.tl_model.specs.Joins.{trace_start, trace_quiet, trace_join, trace_text, trace_paused, paused_longer, paused_cut, cut_join, cut_text}
 use Rattle.tl_tool.specs.declared.ending.Ending.{Ending}
@@ -50,6 +54,11 @@ refuses_quiet run ok first mid last quiet near = record {
   quiet = quiet_join first mid near.mid quiet near.quiet;
   says = near.says;
 }
+
+-- words that are refused at their first fault
+pub refused-by_words : (found : Option Fault) (at : ℕ) (kind : WordKind) (run : Run) → IsErrorOf found (BadWordsError at kind) → refused (BadWords at kind) ≡ by_words found run
+refused-by_words (Some fault) at kind run is = λ i. refused (BadWords (is.0 i) (is.1 i))
+refused-by_words None at kind run is = absurd is
 
 -- calls that change nothing in front of a run
 pub outcome_quiet : (run : Run) (ending : Ending) (first mid last : Seen) → Quiet first mid → IsOutcome run ending mid last → IsOutcome run ending first last

@@ -46,7 +46,10 @@ mod tests {
             kind: WordKind::Action,
         };
         assert_eq!(rt; Ending::Done.status(), 0);
-        assert_eq!(rt; Ending::Refused(Refusal::Unbuilt(Missing::Form)).status(), 1);
+        assert_eq!(rt;
+            Ending::Refused(Refusal::Unbuilt(Missing::Form)).status(),
+            1
+        );
         assert_eq!(rt; Ending::Refused(bad).status(), 2);
         assert_eq!(rt; Ending::HostFault.status(), 3);
         assert_eq!(rt; Ending::NoMemory.status(), 4);
@@ -60,7 +63,10 @@ mod tests {
             at: 12,
             kind: WordKind::Operand,
         };
-        assert_eq!(rt; bad.to_string(rt.alloc())?.as_str(), "tlmgr: BadWords at=12 kind=Operand");
+        assert_eq!(rt;
+            bad.to_string(rt.alloc())?.as_str(),
+            "tlmgr: BadWords at=12 kind=Operand"
+        );
         Ok(())
     }
 }

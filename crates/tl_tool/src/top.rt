@@ -90,7 +90,11 @@ fn perform<H: Host>(alloc: Global, words: &[Vec<u8>], host: &mut H) -> Ending
 {
     match read_words(alloc, words) {
         Ok(command) => act(alloc, &command.action, host),
-        Err(WordsError::BadWords { at, kind }) => refuse(alloc, Refusal::BadWords { at, kind }, host),
+        Err(WordsError::BadWords { at, kind }) => refuse(
+            alloc,
+            Refusal::BadWords { at, kind },
+            host,
+        ),
         Err(WordsError::NoMemory) => Ending::NoMemory,
     }
 }

@@ -13,6 +13,7 @@ mod table;
 
 pub use command::{Action, Bytes, Command, Repositories, Repository};
 pub use error::{WordKind, WordsError};
+pub use faults::Fault;
 pub use line::split_line;
 pub use read::{read_shell_words, read_words};
 pub use help::usage;

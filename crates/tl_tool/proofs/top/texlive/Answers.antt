@@ -1,4 +1,5 @@
-use Rattle.std.proofs.Common.{◌≡◌, subst, Some, List, ℕ, map}
+use Rattle.tl_words.specs.Inside.{texts}
+use Rattle.std.proofs.Common.{◌≡◌, subst, Some, List, ℕ}
 use Rattle.tl_model.specs.Volume.{Volume}
 use Rattle.tl_model.specs.Seen.{Seen}
 use Rattle.tl_model.specs.Pictures.{since_could}
