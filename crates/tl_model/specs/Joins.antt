@@ -182,7 +182,6 @@ module _ (stand : Volume → Option Volume) where
   -- a whole run, and then one that was cut off
   pub cut_join : (first mid last : Seen) (tree : Volume) (es fs : List Event) → Trace stand first mid tree es → Cut stand mid last (tree_after es tree) fs → Cut stand first last tree (es ++ fs)
   cut_join first mid last tree es fs far near = record {
-    lines = lines-append es fs far.lines near.lines;
     more = said_by es ++ near.more;
     said = near.said ∙ ap (λ (l : List ℕ). l ++ near.more) far.said ∙ append_assoc first.present.said (said_by es) near.more;
     front = front-behind es fs near.more near.front;
@@ -191,9 +190,8 @@ module _ (stand : Volume → Option Volume) where
   }
 
   -- a run that was cut off is one of a longer list too
-  pub cut_longer : (first last : Seen) (tree : Volume) (es fs : List Event) → AreLines fs → Cut stand first last tree es → Cut stand first last tree (es ++ fs)
-  cut_longer first last tree es fs lines cut = record {
-    lines = lines-append es fs cut.lines lines;
+  pub cut_longer : (first last : Seen) (tree : Volume) (es fs : List Event) → Cut stand first last tree es → Cut stand first last tree (es ++ fs)
+  cut_longer first last tree es fs cut = record {
     more = cut.more;
     said = cut.said;
     front = front-longer es fs cut.more cut.front;
@@ -209,7 +207,6 @@ module _ (stand : Volume → Option Volume) where
   -- a whole run, and then one that gave up
   pub paused_join : (first mid last : Seen) (tree : Volume) (es fs : List Event) → Trace stand first mid tree es → Paused stand mid last (tree_after es tree) fs → Paused stand first last tree (es ++ fs)
   paused_join first mid last tree es fs far near = record {
-    lines = lines-append es fs far.lines near.lines;
     more = said_by es ++ near.more;
     said = near.said ∙ ap (λ (l : List ℕ). l ++ near.more) far.said ∙ append_assoc first.present.said (said_by es) near.more;
     front = front-behind es fs near.more near.front;
@@ -219,9 +216,8 @@ module _ (stand : Volume → Option Volume) where
   }
 
   -- a run that gave up is one of a longer list too
-  pub paused_longer : (first last : Seen) (tree : Volume) (es fs : List Event) → AreLines fs → Paused stand first last tree es → Paused stand first last tree (es ++ fs)
-  paused_longer first last tree es fs lines paused = record {
-    lines = lines-append es fs paused.lines lines;
+  pub paused_longer : (first last : Seen) (tree : Volume) (es fs : List Event) → Paused stand first last tree es → Paused stand first last tree (es ++ fs)
+  paused_longer first last tree es fs paused = record {
     more = paused.more;
     said = paused.said;
     front = front-longer es fs paused.more paused.front;
@@ -233,7 +229,6 @@ module _ (stand : Volume → Option Volume) where
   -- a whole run may give up behind its last event
   pub trace_paused : (first last : Seen) (tree : Volume) (events : List Event) → Trace stand first last tree events → Paused stand first last tree events
   trace_paused first last tree events trace = record {
-    lines = trace.lines;
     more = said_by events;
     said = trace.said;
     front = ([], sym (append-nil (said_by events)));
@@ -245,7 +240,6 @@ module _ (stand : Volume → Option Volume) where
   -- a run that gave up is cut off there
   pub paused_cut : (first last : Seen) (tree : Volume) (events : List Event) → Paused stand first last tree events → Cut stand first last tree events
   paused_cut first last tree events paused = record {
-    lines = paused.lines;
     more = paused.more;
     said = paused.said;
     front = paused.front;
@@ -286,7 +280,6 @@ module _ (stand : Volume → Option Volume) where
   -- a run that gave up, and then one without events
   pub paused_rest : (first mid last : Seen) (tree : Volume) (events : List Event) (paused : Paused stand first mid tree events) → Trace stand mid last (tree_at (acks paused.more) events tree) [] → Paused stand first last tree events
   paused_rest first mid last tree events paused trace = record {
-    lines = paused.lines;
     more = paused.more;
     said = trace.said ∙ append-nil mid.present.said ∙ paused.said;
     front = paused.front;
@@ -298,7 +291,6 @@ module _ (stand : Volume → Option Volume) where
   -- a run that gave up, and then one without events that was cut off
   pub paused_rest_cut : (first mid last : Seen) (tree : Volume) (events : List Event) (paused : Paused stand first mid tree events) → Cut stand mid last (tree_at (acks paused.more) events tree) [] → Cut stand first last tree events
   paused_rest_cut first mid last tree events paused cut = record {
-    lines = paused.lines;
     more = paused.more;
     said = cut.said ∙ ap (λ (l : List ℕ). mid.present.said ++ l) (front-nil cut.more cut.front) ∙ append-nil mid.present.said ∙ paused.said;
     front = paused.front;
@@ -354,7 +346,6 @@ module _ (stand : Volume → Option Volume) where
   -- a plain text of which a front was said
   pub cut_text : (ok : Bool) (first last : Seen) (tree : Volume) (bytes : List ℕ) → stand first.present.held ≡ Some tree → IsPlain bytes → Says ok bytes first last → Cut stand first last tree (Text bytes ∷ [])
   cut_text ok first last tree bytes stood plain says = record {
-    lines = (plain, tt);
     more = take says.count bytes;
     said = says.said;
     front = (drop says.count bytes ++ [], ap (λ (l : List ℕ). l ++ []) (sym (take-append-drop says.count bytes)) ∙ append_assoc (take says.count bytes) (drop says.count bytes) []);

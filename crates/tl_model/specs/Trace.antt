@@ -78,7 +78,6 @@ module _ (stand : Volume → Option Volume) where
 
   -- the run was cut off by a fault: a front of its bytes was said
   pub record Cut (first last : Seen) (tree : Volume) (events : List Event) : Type 0 where
-    pub lines : AreLines events
     pub more : List ℕ
     pub said : last.present.said ≡ first.present.said ++ more
     pub front : IsFront more (said_by events)
@@ -87,7 +86,6 @@ module _ (stand : Volume → Option Volume) where
 
   -- the run gave up between its steps: a front of its bytes was said, and each step that was made is acknowledged
   pub record Paused (first last : Seen) (tree : Volume) (events : List Event) : Type 0 where
-    pub lines : AreLines events
     pub more : List ℕ
     pub said : last.present.said ≡ first.present.said ++ more
     pub front : IsFront more (said_by events)

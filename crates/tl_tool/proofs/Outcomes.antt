@@ -92,16 +92,16 @@ module _ (first last : Seen) (tree : Volume) (stood : stand first.present.held �
       (trace_quiet stand first first near.mid tree [] (trace_start stand first tree stood) near.quiet)
       (cut_text stand false near.mid last tree (refusal_line near.refusal) (ap (λ m. stand m.held) near.quiet.present ∙ stood) (refuses_plain run false lines near) near.says))
 
-  quiet_paused : (run : Run) → AreLines run.events → Quiet first last → Paused stand first last tree run.events
-  quiet_paused run lines quiet = paused_longer stand first last tree [] run.events lines (trace_paused stand first last tree [] (quiet_trace quiet))
+  quiet_paused : (run : Run) → Quiet first last → Paused stand first last tree run.events
+  quiet_paused run quiet = paused_longer stand first last tree [] run.events (trace_paused stand first last tree [] (quiet_trace quiet))
 
   -- over the tree that the volume stands for
   pub outcome_run : (run : Run) (ending : Ending) → AreLines run.events → IsOutcome run ending first last → IsRun run ending first last tree
   outcome_run run Done lines near = (ap (λ (r : Run). r.ending) near.0, subst (λ (r : Run). Trace stand first last tree r.events) (sym near.0) (quiet_trace near.1))
   outcome_run run (Refused refusal) lines near = (near.0, refuses_trace run lines near.1)
-  outcome_run run HostFault lines (inl quiet) = paused_cut stand first last tree run.events (quiet_paused run lines quiet)
+  outcome_run run HostFault lines (inl quiet) = paused_cut stand first last tree run.events (quiet_paused run quiet)
   outcome_run run HostFault lines (inr near) = refuses_cut run lines near
-  outcome_run run NoMemory lines quiet = quiet_paused run lines quiet
+  outcome_run run NoMemory lines quiet = quiet_paused run quiet
 
 -- each picture of a run is a cut of it
 pub run_pictures : (run : Run) (ending : Ending) (first last : Seen) (tree : Volume) → IsRun run ending first last tree → Pictures stand first last tree run.events
