@@ -6,3 +6,5 @@ pub mod Names
 pub mod Reserved
 pub mod Errors
 pub mod Kinds
+pub mod Platforms
+pub mod BlankInside

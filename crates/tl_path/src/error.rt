@@ -42,3 +42,17 @@ pub enum TagError {
     #[error("no memory")]
     NoMemory,
 }
+
+/// A text has no platforms.
+#[derive(Clone, Copy, Debug, PartialEq, Eq, Error)]
+pub enum PlatformsError {
+    /// A word is no platform, repeats one or is the 33rd.
+    #[error("no platform at byte {at}")]
+    BadPlatforms {
+        /// The place of the first byte of the first such word; 4294967295 where it is greater.
+        at: u32,
+    },
+    /// No memory for the platforms.
+    #[error("no memory")]
+    NoMemory,
+}

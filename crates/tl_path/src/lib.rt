@@ -11,15 +11,19 @@ mod kinds;
 mod name;
 mod path;
 mod path_ref;
+mod platform;
+mod platforms;
 mod tag;
 
 pub use components::Components;
-pub use error::{NameError, PathError, TagError};
+pub use error::{NameError, PathError, PlatformsError, TagError};
 pub use fault::{PathFault, PathKind};
 pub use kinds::{Category, Check};
 pub use name::Name;
 pub use path::Path;
 pub use path_ref::PathRef;
+pub use platform::Platform;
+pub use platforms::Platforms;
 pub use tag::Tag;
 
 #[cfg(test)]

@@ -1,7 +1,7 @@
 // Each public call, and tables of texts that are paths and names and of those that are not.
 use crate::{
     Category, Check, Components, Name, NameError, Path, PathError, PathFault, PathKind, PathRef,
-    Tag, TagError,
+    Platforms, PlatformsError, Tag, TagError,
 };
 use std::test::Fail;
 
@@ -178,6 +178,36 @@ fn tags(rt: HostRuntime) -> Result<(), Fail> {
     for text in [b"".as_slice(), b"_a", b"a.b"] {
         assert_eq!(rt; Tag::parse(rt.alloc(), text).err(), Some(TagError::NotTag));
     }
+    Ok(())
+}
+
+#[test]
+fn platforms_are_kept_in_byte_order(rt: HostRuntime) -> Result<(), Fail> {
+    let platforms = Platforms::parse(rt.alloc(), b" windows\tlinux  a-2 ")?;
+    assert_eq!(rt; platforms.len(), 3);
+    assert_eq!(rt; platforms.get(0), Some(b"a-2".as_slice()));
+    assert_eq!(rt; platforms.get(1), Some(b"linux".as_slice()));
+    assert_eq!(rt; platforms.get(2), Some(b"windows".as_slice()));
+    assert_eq!(rt; platforms.get(3), None);
+    assert_eq!(rt; Platforms::parse(rt.alloc(), b"")?.len(), 0);
+    for (text, at) in [(b"a Linux".as_slice(), 2), (b"a b a", 4), (b"-a", 0)] {
+        assert_eq!(rt;
+            Platforms::parse(rt.alloc(), text).err(),
+            Some(PlatformsError::BadPlatforms { at })
+        );
+    }
+    Ok(())
+}
+
+#[test]
+fn there_are_at_most_32_platforms(rt: HostRuntime) -> Result<(), Fail> {
+    let text = "a b c d e f g h i j k l m n o p q r s t u v w x y z 0 1 2 3 4 5";
+    assert_eq!(rt; Platforms::parse(rt.alloc(), text.as_bytes())?.len(), 32);
+    let text = "a b c d e f g h i j k l m n o p q r s t u v w x y z 0 1 2 3 4 5 6";
+    assert_eq!(rt;
+        Platforms::parse(rt.alloc(), text.as_bytes()).err(),
+        Some(PlatformsError::BadPlatforms { at: 64 })
+    );
     Ok(())
 }
 
