@@ -21,3 +21,7 @@ size_step words i v h is = ap (size_fault i) (drop_texts words i v h is)
 pub list_any_map : {A B : Type 0} (p : B → Bool) (f : A → B) (xs : List A) → list_any p (map f xs) ≡ list_any (λ x. p (f x)) xs
 list_any_map p f [] = refl
 list_any_map p f (x ∷ xs) = ap (λ b. p (f x) || b) (list_any_map p f xs)
+
+pub length_texts : (words : List (Vec ℕ Global)) → length (texts words) ≡ length words
+length_texts [] = refl
+length_texts (word ∷ words) = ap suc (length_texts words)
