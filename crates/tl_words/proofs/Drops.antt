@@ -1,5 +1,5 @@
 -- The words from a place on.
-use Rattle.std.proofs.Common.{◌≡◌, ℕ, ◌+◌, ◌<◌, List, [], ◌∷◌, length, drop, get_or, map, Vec, suc, zero, ap, sym, ◌∙◌, refl, arith, add-one, Bool, ◌||◌}
+use Rattle.std.proofs.Common.{◌≡◌, ℕ, ◌+◌, ◌<◌, List, [], ◌∷◌, length, drop, get_or, map, Vec, suc, zero, ap, sym, refl, arith, add-one, Bool, ◌||◌}
 use Rattle.std.specs.List.{list_any}
 use Rattle.tl_words.specs.Faults.{size_fault}
 use Rattle.std.specs.declared.alloc.Global.{Global}

@@ -1,4 +1,4 @@
-use Rattle.std.proofs.Common.{◌≡◌, [], Some, ap, sym, ◌∙◌, subst, length, ℕ, List, Option}
+use Rattle.std.proofs.Common.{[], ap, ◌∙◌, subst, ℕ}
 use Rattle.tl_words.specs.declared.settings.OptionsError.{OptionsError}
 use Rattle.tl_words.specs.Errors.{IsOptionsError}
 use Rattle.tl_words.specs.Faults.{earlier, options_fault, size_fault, action_fault, plains}
