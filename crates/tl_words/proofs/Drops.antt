@@ -1,5 +1,5 @@
 -- The words from a place on.
-use Rattle.std.proofs.Common.{◌≡◌, ℕ, ◌+◌, ◌<◌, List, [], ◌∷◌, length, drop, get_or, map, Vec, suc, zero, ap, sym, ◌∙◌, refl, arith, add-one, Bool, ◌||◌}
+use Rattle.std.proofs.Common.{◌≡◌, ℕ, ◌+◌, ◌<◌, List, [], ◌∷◌, length, drop, get_or, map, Vec, suc, zero, ap, sym, refl, arith, add-one, Bool, ◌||◌}
 use Rattle.std.specs.List.{list_any}
 use Rattle.tl_words.specs.Faults.{size_fault}
 use Rattle.std.specs.declared.alloc.Global.{Global}
@@ -21,3 +21,7 @@ size_step words i v h is = ap (size_fault i) (drop_texts words i v h is)
 pub list_any_map : {A B : Type 0} (p : B → Bool) (f : A → B) (xs : List A) → list_any p (map f xs) ≡ list_any (λ x. p (f x)) xs
 list_any_map p f [] = refl
 list_any_map p f (x ∷ xs) = ap (λ b. p (f x) || b) (list_any_map p f xs)
+
+pub length_texts : (words : List (Vec ℕ Global)) → length (texts words) ≡ length words
+length_texts [] = refl
+length_texts (word ∷ words) = ap suc (length_texts words)

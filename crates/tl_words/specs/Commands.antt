@@ -1,5 +1,5 @@
 -- The command that words stand for.
-use Rattle.std.specs.Prelude.{◌≡◌, ℕ, Bool, false, List, [], ◌∷◌, Option, Some, None, option_map, map, ◌++◌}
+use Rattle.std.specs.Prelude.{◌≡◌, ℕ, false, List, [], ◌∷◌, Option, Some, None, option_map, map, ◌++◌}
 use Rattle.tl_model.specs.Decimal.{decimal_value}
 use Rattle.tl_words.specs.declared.table.OptionName.{OptionName}
 use Rattle.tl_words.specs.declared.table.OptionName.TheVariants.{Repository as RepositoryOption, Workers}
@@ -11,7 +11,7 @@ use Rattle.tl_words.specs.declared.command.Action.TheVariants as actions
 use Rattle.tl_words.specs.declared.command.Command.{Command}
 use Rattle.tl_words.specs.Table.{action_named}
 use Rattle.tl_words.specs.Parts.{Part, given, plain}
-use Rattle.tl_words.specs.Faults.{tag_of, folder_of, plains, has_local, program_parts, session_parts}
+use Rattle.tl_words.specs.Faults.{tag_of, folder_of, plains, has_local}
 
 abbrev pub repository_of : List ℕ → Repository
 repository_of value = record { tag = tag_of value; folder = folder_of value }

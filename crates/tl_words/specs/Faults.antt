@@ -1,5 +1,5 @@
 -- Where a list of words fails to be a command.
-use Rattle.std.specs.Prelude.{◌≡◌, ℕ, ◌+◌, ◌-◌, ◌==◌, ◌&&◌, ◌||◌, Bool, true, false, not, cond, if◌then◌else◌, List, [], ◌∷◌, ◌++◌, length, codes, Option, Some, None, nat_lt, nat_le, bytes_eq}
+use Rattle.std.specs.Prelude.{◌≡◌, ℕ, ◌+◌, ◌==◌, ◌&&◌, ◌||◌, Bool, true, false, not, if◌then◌else◌, List, [], ◌∷◌, ◌++◌, length, codes, Option, Some, None, nat_lt, nat_le, bytes_eq}
 use Rattle.std.specs.List.{before_first, after_first, position_or_len, list_any}
 use Rattle.tl_model.specs.Decimal.{is_decimal, decimal_value}
 use Rattle.tl_path.specs.Names.{is_tag}

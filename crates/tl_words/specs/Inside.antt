@@ -1,5 +1,5 @@
 -- What is left of an iterator over the parts of words.
-use Rattle.std.specs.Prelude.{ℕ, List, map, drop, Option, None, option_map, Vec, false}
+use Rattle.std.specs.Prelude.{ℕ, List, map, drop, None, option_map, Vec}
 use Rattle.std.specs.declared.alloc.Global.{Global}
 use Rattle.tl_words.specs.declared.parts.PartsIter.{PartsIter}
 use Rattle.tl_words.specs.declared.parts.Placed.{Placed}

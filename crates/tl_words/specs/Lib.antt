@@ -5,3 +5,4 @@ pub mod Commands
 pub mod Inside
 pub mod Errors
 pub mod Lines
+pub mod Places

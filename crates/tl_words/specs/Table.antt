@@ -1,5 +1,5 @@
 -- The options and actions that the program knows.
-use Rattle.std.specs.Prelude.{ℕ, Bool, true, false, cond, ◌||◌, List, [], ◌∷◌, codes, Option, Some, None, find, bytes_eq}
+use Rattle.std.specs.Prelude.{ℕ, Bool, true, false, cond, ◌||◌, List, [], ◌∷◌, codes, Option, find, bytes_eq}
 use Rattle.tl_words.specs.declared.table.OptionName.{OptionName}
 use Rattle.tl_words.specs.declared.table.OptionName.TheVariants.{Repository, Workers, Usertree, Usermode, Local, All, Force, Formats, Reinstall, NoDepends, NoDependsAtAll, NoAutoInstall, NoAutoRemove, ReinstallForciblyRemoved}
 use Rattle.tl_words.specs.declared.table.ActionName.{ActionName}

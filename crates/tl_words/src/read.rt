@@ -1,9 +1,10 @@
 // The command that words ask for, or their first fault.
-ghost use Rattle.std.specs.Prelude.{◌≡◌, [], Some, None, IfOk, IfErr, OnOk, MatchResult, option_map};
+ghost use Rattle.std.specs.Prelude.{◌≡◌, ◌≤◌, [], Some, None, IfOk, IfErr, OnOk, MatchResult, option_map};
 ghost use Rattle.tl_words.specs.Faults.{earlier, or_else, options_fault, size_fault, action_fault, command_fault, foreign_fault, required_fault, operand_fault, plains, program_parts, session_parts, words_fault, session_fault};
 ghost use Rattle.tl_words.specs.Commands.{first_action, IsCommandOf, HasRoot, repositories_of, workers_of};
 ghost use Rattle.tl_words.specs.Inside.{texts, parts_left, placed_of};
-ghost use Rattle.tl_words.specs.Errors.{IsErrorOf};
+ghost use Rattle.tl_words.specs.Errors.{IsErrorOf, IsOptionsError};
+ghost use Rattle.tl_words.specs.Places.{AreWithin};
 
 use crate::command::{Action, Bytes, Command, Repositories};
 use crate::error::{WordKind, WordsError};
@@ -14,29 +15,34 @@ use crate::table::ActionName;
 use std::alloc::Global;
 
 fn refused(fault: Fault) -> WordsError
+    requires { fault.at ≤ 4096 }
     ensures { IsErrorOf (Some fault) result }
 {
     WordsError::BadWords {
-        at: u32::try_from(fault.at).unwrap_or(u32::MAX),
+        at: fault.at as u32,
         kind: fault.kind,
     }
 }
 
 // The settings of the options, where neither they nor the words' sizes have a fault.
-fn settings(alloc: Global, words: &[Vec<u8>], parts: PartsIter<'_>) -> Result<Settings, WordsError>
+fn settings(
+    alloc: Global,
+    words: &[Vec<u8>],
+    parts: PartsIter<'_>,
+) -> Result<Settings, OptionsError>
     ensures none { OnOk result (earlier (options_fault [] (parts_left parts.entry)) (size_fault 0 (texts words.now)) ≡ None) }
     ensures repositories { IfOk result (λ settings. settings.repositories.items ≡ repositories_of (parts_left parts.entry)) }
     ensures workers { IfOk result (λ settings. settings.workers ≡ workers_of 4 (parts_left parts.entry)) }
-    ensures fault { IfErr result (IsErrorOf (earlier (options_fault [] (parts_left parts.entry)) (size_fault 0 (texts words.now)))) }
+    ensures fault { IfErr result (IsOptionsError (earlier (options_fault [] (parts_left parts.entry)) (size_fault 0 (texts words.now)))) }
 {
     let size = size_fault(words);
     match read_options(alloc, parts) {
         Ok(settings) => match size {
-            Some(fault) => Err(refused(fault)),
+            Some(fault) => Err(OptionsError::Bad(fault)),
             None => Ok(settings),
         },
-        Err(OptionsError::Bad(fault)) => Err(refused(earlier_of(fault, size))),
-        Err(OptionsError::NoMemory) => Err(WordsError::NoMemory),
+        Err(OptionsError::Bad(fault)) => Err(OptionsError::Bad(earlier_of(fault, size))),
+        Err(OptionsError::NoMemory) => Err(OptionsError::NoMemory),
     }
 }
 
@@ -105,12 +111,17 @@ fn command(
     words: &[Vec<u8>],
     parts: PartsIter<'_>,
 ) -> Result<Command, WordsError>
+    requires { AreWithin (texts words.now) (parts_left parts) }
     ensures none { OnOk result (command_fault (texts words.now) (parts_left parts.entry) ≡ None) }
     ensures root { IfOk result (λ command. command.root ≡ root) }
     ensures command { IfOk result (IsCommandOf (parts_left parts.entry)) }
     ensures fault { IfErr result (IsErrorOf (command_fault (texts words.now) (parts_left parts.entry))) }
 {
-    let settings = settings(alloc, words, parts)?;
+    let settings = match settings(alloc, words, parts) {
+        Ok(settings) => settings,
+        Err(OptionsError::Bad(fault)) => return Err(refused(fault)),
+        Err(OptionsError::NoMemory) => return Err(WordsError::NoMemory),
+    };
     match find_action(words.len(), parts) {
         Ok(ActionName::DumpTlpdb) => Ok(Command {
             root,

@@ -1,5 +1,4 @@
-use Rattle.std.proofs.Common.{◌≡◌, ◌∙◌, sym, ap, ◌==◌, ◌||◌, nat_lt, length, true, false, drop, ◌+◌}
-use Rattle.tl_words.specs.Inside.{texts}
+use Rattle.std.proofs.Common.{◌≡◌, ◌∙◌, sym, ap, ◌==◌, ◌||◌, nat_lt, length, true, false}
 use Rattle.tl_words.proofs.Drops.{size_step}
 use Rattle.tl_words.proofs.faults.size_fault.Goals as goal
 

@@ -1,4 +1,4 @@
-use Rattle.std.proofs.Common.{◌≡◌, ◌∙◌, sym, ap, subst, Option, Some, option_map, List, ℕ}
+use Rattle.std.proofs.Common.{◌∙◌, sym, subst, Option, Some, option_map}
 use Rattle.tl_words.specs.declared.parts.Placed.{Placed}
 use Rattle.tl_words.specs.Faults.{IsFirstTwo, plains}
 use Rattle.tl_words.specs.Inside.{parts_left, placed_of}
