@@ -7,8 +7,8 @@ use Rattle.std.proofs.lemmas.List.{length-take-le, get_or-take, get_or_append_le
 use Rattle.std.proofs.lemmas.List.Folds.{list_all-append}
 use Rattle.std.proofs.lemmas.Bool.{true≢false}
 use Rattle.std.proofs.lemmas.Bool.Decides.{nat_tests}
-use Rattle.tl_path.specs.Bytes.{is_letter_or_digit, is_of_name, is_of_tag, is_of_platform, is_lower_or_digit}
-use Rattle.tl_path.specs.Names.{is_word, is_name, is_tag, IsLongestNameFront, is_platform}
+use Rattle.tl_path.specs.Bytes.{is_letter_or_digit, is_of_name, is_of_tag, is_of_platform}
+use Rattle.tl_path.specs.Names.{is_word, is_name, is_tag, IsLongestNameFront}
 
 left : (a b : Bool) → (a && b) ≡ true → a ≡ true
 left true b h = refl
@@ -72,9 +72,6 @@ name_utf8 = word_utf8 is_letter_or_digit is_of_name 128 is_of_name-small
 
 pub tag_utf8 : (text : List ℕ) → is_tag text ≡ true → IsUtf8 text
 tag_utf8 = word_utf8 is_letter_or_digit is_of_tag 64 is_of_tag-small
-
-pub platform_utf8 : (text : List ℕ) → is_platform text ≡ true → IsUtf8 text
-platform_utf8 = word_utf8 is_lower_or_digit is_of_platform 32 is_of_platform-small
 
 -- the longest front that passes a test
 

@@ -1,5 +1,5 @@
 -- What each error says of the text that was read.
-use Rattle.std.specs.Prelude.{◌≡◌, ℕ, true, false, List, [], Option, Some, None, min}
+use Rattle.std.specs.Prelude.{◌≡◌, ℕ, true, false, List, Some}
 use Rattle.tl_path.specs.declared.error.PathError.{PathError}
 use Rattle.tl_path.specs.declared.error.PathError.TheVariants.{BadPath, NoMemory}
 use Rattle.tl_path.specs.declared.error.NameError.{NameError}
