@@ -14,9 +14,9 @@ mod table;
 pub use command::{Action, Bytes, Command, Repositories, Repository};
 pub use error::{WordKind, WordsError};
 pub use faults::Fault;
+pub use help::usage;
 pub use line::split_line;
 pub use read::{read_shell_words, read_words};
-pub use help::usage;
 
 #[cfg(test)]
 mod tests;
