@@ -1,0 +1,5 @@
+pub mod CutLemmas
+pub mod LineLemmas
+pub mod RisingLemmas
+pub mod BuiltLemmas
+pub mod ReadingLemmas

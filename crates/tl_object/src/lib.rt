@@ -1,0 +1,20 @@
+//! Entries of the package database, both ways.
+#![tactic(auto)]
+
+mod builder;
+mod fault;
+mod file;
+mod form;
+mod head;
+mod key;
+mod lists;
+mod object;
+mod read;
+mod rising;
+mod source;
+mod value;
+
+pub use fault::{LineKind, ObjectError};
+pub use lists::{BinList, DocFileList, Facts, Paths, PlatformName, Texts};
+pub use object::{BinFiles, Container, DocFile, DocFiles, Fact, Files, Object};
+pub use read::{read_object, read_object_after};
