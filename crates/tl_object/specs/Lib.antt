@@ -10,4 +10,5 @@ pub mod Groups
 pub mod Reading
 pub mod Built
 pub mod Known
+pub mod Writing
 pub mod Steps

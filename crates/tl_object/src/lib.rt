@@ -13,8 +13,10 @@ mod read;
 mod rising;
 mod source;
 mod value;
+mod write;
 
 pub use fault::{LineKind, ObjectError};
 pub use lists::{BinList, DocFileList, Facts, Paths, PlatformName, Texts};
 pub use object::{BinFiles, Container, DocFile, DocFiles, Fact, Files, Object};
 pub use read::{read_object, read_object_after};
+pub use write::{append_object, write_object};
