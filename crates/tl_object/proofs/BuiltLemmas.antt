@@ -11,6 +11,7 @@ use Rattle.tl_object.specs.declared.head.Head.{Head}
 use Rattle.tl_object.specs.declared.head.Head.TheVariants as heads
 use Rattle.tl_object.specs.Groups.{Group, only, name_of, is_repeated, latest}
 use Rattle.tl_object.specs.Built.{built, put}
+use Rattle.tl_object.specs.declared.builder.Builder.{Builder}
 use Rattle.tl_object.specs.Known.{is_known}
 
 pub built-put : (groups : List Group) (head : Head) (files : List FileEntry) → built (groups ++ record { head = head; files = files } ∷ []) ≡ put (built groups) head files
@@ -65,3 +66,27 @@ some_latest (Some x) y is = refl
 
 pub named-more : (groups : List Group) (group : Group) → is_some (only name_of groups) ≡ true → is_some (only name_of (groups ++ group ∷ [])) ≡ true
 named-more groups group is = rw fold-append (some_latest (name_of group) (only name_of groups) is)
+
+-- what isn't known yet leaves the name
+pub put-name : (b : Builder) (head : Head) (files : List FileEntry) → is_known b head ≡ false → (put b head files).name ≡ b.name
+put-name b (heads.Name x) files new = absurd (cc)
+put-name b (heads.Category x) files new = refl
+put-name b (heads.Revision x) files new = refl
+put-name b (heads.Catalogue x) files new = refl
+put-name b (heads.Shortdesc x) files new = refl
+put-name b (heads.Relocated x) files new = refl
+put-name b (heads.Longdesc x) files new = refl
+put-name b (heads.Depend x) files new = refl
+put-name b (heads.Execute x) files new = refl
+put-name b (heads.Postaction x) files new = refl
+put-name b (heads.Size Run x) files new = refl
+put-name b (heads.Size Doc x) files new = refl
+put-name b (heads.Size Src x) files new = refl
+put-name b (heads.Digest Run x) files new = refl
+put-name b (heads.Digest Doc x) files new = refl
+put-name b (heads.Digest Src x) files new = refl
+put-name b (heads.Files Run x) files new = refl
+put-name b (heads.Files Doc x) files new = refl
+put-name b (heads.Files Src x) files new = refl
+put-name b (heads.Binfiles platform x) files new = refl
+put-name b (heads.Fact x) files new = refl

@@ -1,10 +1,11 @@
 -- Cuts at the first byte that a search finds, and the first line of a text.
-use Rattle.std.proofs.Common.{◌≡◌, ℕ, zero, suc, ◌+◌, ◌-◌, ◌<◌, ◌≤◌, Bool, true, false, cond, eqb, List, [], ◌∷◌, length, get_or, take, drop, Option, Some, None, refl, ap, ◌∙◌, arith, add-one}
+use Rattle.std.proofs.Common.{◌≡◌, ℕ, zero, suc, ◌+◌, ◌-◌, ◌<◌, ◌≤◌, Bool, true, false, cond, ◌&&◌, eqb, List, [], ◌∷◌, length, get_or, take, drop, Option, Some, None, refl, ap, ◌∙◌, arith, add-one}
 use Rattle.std.proofs.lemmas.Bool.{false_from_ne_true}
 use Rattle.std.proofs.lemmas.List.{take_rest}
 use Rattle.memchr.specs.Find.{Nowhere, NoneBefore, Passes, is_byte}
 use Rattle.std.specs.List.{onto_first}
 use Rattle.tl_model.specs.Lines.{lines}
+use Rattle.tl_object.specs.Content.{front, behind, entry_lines, lines_left}
 use Rattle.tl_object.specs.Cuts.{cut, onto_front}
 
 pub cut_found : (at : ℕ) (text : List ℕ) (i : ℕ) → i < length text → eqb (get_or text i 0) at ≡ true → ((k : ℕ) → k < i → eqb (get_or text k 0) at ≡ false) → cut at text ≡ Some (take i text, drop (suc i) text)
@@ -48,3 +49,19 @@ cut_by at text i none here =
 pub lines_by : (text : List ℕ) (i : ℕ) → NoneBefore (Passes (is_byte 10) text) 0 (length text) i → Passes (is_byte 10) text i → lines text ≡ take i text ∷ lines (take (length text - (i + 1)) (drop (i + 1) text))
 lines_by text i none here =
     rw (take_rest, add-one) (lines_found text i none.high here (λ k lt. apart 10 text 0 i none.before k (omega arith) lt))
+
+pub entry-more : (stops : Bool) (all rest : List (ℕ × List ℕ)) (n : ℕ) (line : List ℕ) → all ≡ (n, line) ∷ rest → (stops && eqb (length line) 0) ≡ false → entry_lines stops all ≡ (n, line) ∷ entry_lines stops rest
+entry-more false all rest n line is full = is
+entry-more true all rest n line is full = ap front is ∙ ap (λ t. cond t [] ((n, line) ∷ front rest)) full
+
+pub entry-left : (stops : Bool) (all rest : List (ℕ × List ℕ)) (n : ℕ) (line : List ℕ) → all ≡ (n, line) ∷ rest → (stops && eqb (length line) 0) ≡ false → lines_left stops all ≡ lines_left stops rest
+entry-left false all rest n line is full = refl
+entry-left true all rest n line is full = ap behind is ∙ ap (λ t. cond t rest (behind rest)) full
+
+pub entry-stops : (stops : Bool) (all rest : List (ℕ × List ℕ)) (n : ℕ) (line : List ℕ) → all ≡ (n, line) ∷ rest → (stops && eqb (length line) 0) ≡ true → entry_lines stops all ≡ []
+entry-stops false all rest n line is empty = absurd (cc)
+entry-stops true all rest n line is empty = ap front is ∙ ap (λ t. cond t [] ((n, line) ∷ front rest)) empty
+
+pub entry-none : (stops : Bool) (all : List (ℕ × List ℕ)) → all ≡ [] → entry_lines stops all ≡ []
+entry-none false all is = is
+entry-none true all is = ap front is

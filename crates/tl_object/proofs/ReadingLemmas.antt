@@ -6,7 +6,7 @@ use Rattle.tl_object.specs.Parts.{FileEntry}
 use Rattle.tl_object.specs.Values.{◌>>=◌, Fails}
 use Rattle.tl_object.specs.Grammar.{line_value, line_form, head_value, file_value}
 use Rattle.tl_object.specs.Groups.{Group, only, name_of, is_repeated}
-use Rattle.tl_object.specs.Reading.{placed, place_of, with_file, with_line, next_groups, at_line, reading, entry_groups, as_object, FailsAt}
+use Rattle.tl_object.specs.Reading.{placed, place_of, with_file, with_line, next_groups, at_line, reading, entry_groups, as_object, first_name, name_at, FailsAt}
 use Rattle.tl_object.specs.Steps.{is_file_line, file_step, file_in, head_step, head_in, head_is_next, IsSection, fault_at}
 use Rattle.tl_object.specs.declared.fault.ObjectError.TheVariants as errors
 use Rattle.tl_object.specs.declared.object.Object.{Object}
@@ -24,7 +24,7 @@ use Rattle.tl_object.specs.declared.head.Head.TheVariants as heads
 use Rattle.tl_object.specs.declared.head.Line.{Line}
 use Rattle.tl_object.specs.declared.head.Line.TheVariants as lines
 use Rattle.tl_object.specs.declared.builder.Builder.{Builder}
-use Rattle.tl_object.proofs.BuiltLemmas.{built-put, known-repeated, named-more}
+use Rattle.tl_object.proofs.BuiltLemmas.{built-put, known-repeated, named-more, put-name}
 
 abbrev pub group : Head → List FileEntry → Group
 group head files = record { head = head; files = files }
@@ -140,6 +140,10 @@ pub record Reached (groups : List Group) (builder : Builder) (all left : List (�
   pub same : entry_groups all ≡ reading groups left
   pub next : head_is_next left ≡ true
   pub some : Behind groups
+  pub name : (line : ℕ) × (first_name all ≡ Ok (line, builder.name))
+
+abbrev name_of_parts : ℕ → Builder → Result (ℕ × List ℕ) (ℕ × LineKind)
+name_of_parts number builder = Ok (number, builder.name)
 
 pub reached-name : (name : List ℕ) (builder : Builder) (files : List FileEntry) (number : ℕ) (line : List ℕ) (all rest left : List (ℕ × List ℕ)) → all ≡ (number, line) ∷ rest
     → next_groups [] line ≡ Ok (group (heads.Name name) [] ∷ []) → IsSection Nowhere files rest left → head_is_next left ≡ true → builder ≡ record (built []) { name = name }
@@ -150,6 +154,7 @@ reached-name name builder files number line all rest left is first section next 
   same = ap entry_groups is ∙ ap (λ (r : Result (List Group) LineKind). at_line number r (λ gs. reading gs rest)) first ∙ section [] (heads.Name name) refl;
   next = next;
   some = ([], (group (heads.Name name) files, refl));
+  name = (number, ap first_name is ∙ ap (name_at number) first ∙ ap (λ (b : Builder). name_of_parts number b) (sym kept));
 }
 
 not_file : (line : List ℕ) → not (is_file_line line) ≡ true → is_file_line line ≡ false
@@ -179,6 +184,18 @@ head_next groups builder line some none kept named =
         subst (λ (gs : List Group). next_groups gs line ≡ (line_value line >>= with_line gs)) (sym some.1.1) (next_groups-behind some.0 some.1.0 line) in
     behind ∙ head_by (line_value line) groups builder (no_file line none) kept named
 
+abbrev name_result : ℕ → List ℕ → Result (ℕ × List ℕ) (ℕ × LineKind)
+name_result number name = Ok (number, name)
+
+known_of : (r : Result Line LineKind) (builder : Builder) (head : Head) → (r >>= head_in builder) ≡ Ok head → is_known builder head ≡ false
+known_of (Ok (lines.Head h)) builder head e = picked (is_known builder h) refl e
+  where
+    picked : (b : Bool) → is_known builder h ≡ b → cond b (Err kinds.Repeated) (Ok h) ≡ Ok head → is_known builder head ≡ false
+    picked true is e = absurd (cc)
+    picked false is e = let same : h ≡ head = cc in subst (λ (x : Head). is_known builder x ≡ false) same is
+known_of (Ok (lines.File file)) builder head e = absurd (cc)
+known_of (Err k) builder head e = absurd (cc)
+
 pub reached-more : (groups : List Group) (builder : Builder) (all rest left : List (ℕ × List ℕ)) (now : List (ℕ × List ℕ)) (number : ℕ) (line : List ℕ) (head : Head) (files : List FileEntry) (more : Builder)
     → Reached groups builder all now → now ≡ (number, line) ∷ rest → head_step builder line ≡ Ok head → IsSection (place_of head) files rest left → head_is_next left ≡ true → more ≡ put builder head files
     → Reached (groups ++ group head files ∷ []) more all left
@@ -192,6 +209,7 @@ reached-more groups builder all rest left now number line head files more so_far
       same = so_far.same ∙ ap (reading groups) is ∙ ap (λ (r : Result (List Group) LineKind). at_line number r (λ gs. reading gs rest)) one ∙ section groups head refl;
       next = next;
       some = (groups, (group head files, refl));
+      name = (so_far.name.0, so_far.name.1 ∙ ap (λ (n : List ℕ). name_result so_far.name.0 n) (sym (ap (λ (b : Builder). b.name) after ∙ put-name builder head files (known_of (line_value line) builder head step))));
     }
 
 line_fails : (e : LineFault) (number : ℕ) (groups : List Group) (builder : Builder) (line : List ℕ) (rest : List (ℕ × List ℕ)) (total : Result (List Group) (ℕ × LineKind))
@@ -232,15 +250,6 @@ name-section_fails e name number line all rest is first fails =
         ap entry_groups is ∙ ap (λ (r : Result (List Group) LineKind). at_line number r (λ gs. reading gs rest)) first in
     subst (λ (r : Result (List Group) (ℕ × LineKind)). FailsAt e r) (sym whole) (fails [] (heads.Name name) refl)
 
-known_of : (r : Result Line LineKind) (builder : Builder) (head : Head) → (r >>= head_in builder) ≡ Ok head → is_known builder head ≡ false
-known_of (Ok (lines.Head h)) builder head e = picked (is_known builder h) refl e
-  where
-    picked : (b : Bool) → is_known builder h ≡ b → cond b (Err kinds.Repeated) (Ok h) ≡ Ok head → is_known builder head ≡ false
-    picked true is e = absurd (cc)
-    picked false is e = let same : h ≡ head = cc in subst (λ (x : Head). is_known builder x ≡ false) same is
-known_of (Ok (lines.File file)) builder head e = absurd (cc)
-known_of (Err k) builder head e = absurd (cc)
-
 -- what a step gives isn't known yet
 pub step-unknown : (builder : Builder) (line : List ℕ) (head : Head) → head_step builder line ≡ Ok head → is_known builder head ≡ false
 step-unknown builder line head e = known_of (line_value line) builder head e
@@ -253,3 +262,7 @@ object-read read parts groups object is kept made =
 pub object-fails : (e : ObjectError) (read : Result (List Group) (ℕ × LineKind)) → FailsAt e read → FailsAt e (as_object read)
 object-fails errors.NoMemory read fails = tt
 object-fails (errors.BadObject line kind) read fails = ap as_object fails
+
+pub name-missing : (e : LineFault) (number : ℕ) (line : List ℕ) (all rest : List (ℕ × List ℕ)) → all ≡ (number, line) ∷ rest → Fails e (next_groups [] line) → FailsAt (fault_at number e) (first_name all)
+name-missing faults.NoMemory number line all rest is fails = tt
+name-missing (faults.Bad kind) number line all rest is fails = ap first_name is ∙ ap (name_at number) fails

@@ -1,5 +1,5 @@
 -- The reading of an entry: its lines in groups, or its first bad line.
-use Rattle.std.specs.Prelude.{◌≡◌, ℕ, Bool, true, false, ◌||◌, if◌then◌else◌, List, [], ◌∷◌, ◌++◌, codes, Option, Some, None, is_some, Result, Ok, Err}
+use Rattle.std.specs.Prelude.{◌≡◌, ℕ, Bool, true, false, ◌||◌, if◌then◌else◌, List, [], ◌∷◌, ◌++◌, codes, Option, Some, None, is_some, unwrap_or, Result, Ok, Err}
 use Rattle.std.specs.Str.{bytes_eq}
 use Rattle.tl_object.specs.Content.{content}
 use Rattle.tl_object.specs.Cuts.{cut}
@@ -7,7 +7,7 @@ use Rattle.tl_object.specs.Parts.{FileEntry}
 use Rattle.tl_object.specs.Rising.{insert_by, has_key}
 use Rattle.tl_object.specs.Values.{◌>>=◌}
 use Rattle.tl_object.specs.Grammar.{line_value}
-use Rattle.tl_object.specs.Groups.{Group, object_of, is_repeated}
+use Rattle.tl_object.specs.Groups.{Group, object_of, is_repeated, only, name_of}
 use Rattle.tl_object.specs.declared.fault.LineKind.{LineKind}
 use Rattle.tl_object.specs.declared.fault.LineKind.TheVariants as kinds
 use Rattle.tl_object.specs.declared.fault.ObjectError.{ObjectError}
@@ -87,9 +87,18 @@ abbrev pub as_object : Result (List Group) (ℕ × LineKind) → Result Object (
 as_object (Ok groups) = Ok (object_of groups)
 as_object (Err fault) = Err fault
 
--- the entry of a text with this many lines before it, or the number of its first bad line with that line's first fault
-abbrev pub entry_from : ℕ → List ℕ → Result Object (ℕ × LineKind)
-entry_from before text = as_object (entry_groups (content before text))
+-- the entry of a text, or the number of its first bad line with that line's first fault
+abbrev pub entry_of : List ℕ → Result Object (ℕ × LineKind)
+entry_of text = as_object (entry_groups (content 0 text))
+
+abbrev pub name_at : ℕ → Result (List Group) LineKind → Result (ℕ × List ℕ) (ℕ × LineKind)
+name_at number (Ok groups) = Ok (number, unwrap_or (only name_of groups) [])
+name_at number (Err kind) = Err (number, kind)
+
+-- the name of an entry and the number of its line, or the fault of that line
+abbrev pub first_name : List (ℕ × List ℕ) → Result (ℕ × List ℕ) (ℕ × LineKind)
+first_name [] = Err (1, kinds.Missing)
+first_name (line ∷ rest) = name_at line.0 (next_groups [] line.1)
 
 -- a fault that a reader answered is that of the reading; want of memory says nothing
 abbrev pub FailsAt : {A : Type 0} → ObjectError → Result A (ℕ × LineKind) → Type 0

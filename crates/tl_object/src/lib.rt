@@ -18,5 +18,5 @@ mod write;
 pub use fault::{LineKind, ObjectError};
 pub use lists::{BinList, DocFileList, Facts, Paths, PlatformName, Texts};
 pub use object::{BinFiles, Container, DocFile, DocFiles, Fact, Files, Object};
-pub use read::{read_object, read_object_after};
+pub use read::{Entry, Named, read_entry, read_entry_name, read_object};
 pub use write::{append_object, write_object};

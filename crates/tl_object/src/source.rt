@@ -1,7 +1,7 @@
 //! The lines of a text that count, and texts cut in two.
 ghost use Rattle.std.specs.Prelude.{◌≡◌, ◌+◌, ◌<◌, ◌^◌, ◌≤◌, [], ◌∷◌, length, MatchOption, ⊤};
 ghost use Rattle.tl_model.specs.Lines.{lines};
-ghost use Rattle.tl_object.specs.Content.{content, is_comment};
+ghost use Rattle.tl_object.specs.Content.{content, is_comment, entry_lines, lines_left};
 ghost use Rattle.tl_object.specs.Cuts.{cut};
 
 use memchr::memchr;
@@ -63,4 +63,26 @@ pub(crate) fn next_line(before: u32, text: &[u8]) -> Option<Found<'_>>
         }
     }
     None
+}
+
+/// The first line that counts of an entry that ends at the text's end, or, where it `stops`, before the first empty line;
+/// `None` where the entry has no more.
+pub(crate) fn next_entry_line(stops: bool, before: u32, text: &[u8]) -> Option<Found<'_>>
+    requires { before + length text.now < 2 ^ 32 }
+    ensures line { MatchOption result (entry_lines stops (content before text.now) ≡ [])
+        (λ found. entry_lines stops (content before text.now) ≡ (found.number, found.line.now) ∷ entry_lines stops (content found.number found.rest.now)) }
+    ensures left { MatchOption result ⊤ (λ found. lines_left stops (content before text.now) ≡ lines_left stops (content found.number found.rest.now)) }
+    ensures shorter { MatchOption result ⊤ (λ found. length found.rest.now < length text.now) }
+    ensures fits { MatchOption result ⊤ (λ found. found.number + length found.rest.now ≤ before + length text.now) }
+{
+    match next_line(before, text) {
+        Some(found) => {
+            if stops && found.line.is_empty() {
+                None
+            } else {
+                Some(found)
+            }
+        }
+        None => None,
+    }
 }
