@@ -3,3 +3,4 @@ pub mod LineLemmas
 pub mod RisingLemmas
 pub mod BuiltLemmas
 pub mod ReadingLemmas
+pub mod StretchLemmas

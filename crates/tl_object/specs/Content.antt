@@ -1,5 +1,6 @@
 -- The lines of a text that count, with their numbers.
-use Rattle.std.specs.Prelude.{ℕ, ◌+◌, ◌==◌, Bool, true, false, if◌then◌else◌, List, [], ◌∷◌, length}
+use Rattle.std.specs.Prelude.{ℕ, ◌+◌, ◌==◌, Bool, true, false, if◌then◌else◌, List, [], ◌∷◌, length, filter}
+use Rattle.std.specs.List.{slice_split}
 use Rattle.tl_model.specs.Lines.{lines}
 
 -- whether a line is passed over: it begins with the byte `#`
@@ -36,3 +37,14 @@ entry_lines true lines = front lines
 abbrev pub lines_left : Bool → List (ℕ × List ℕ) → List (ℕ × List ℕ)
 lines_left false lines = []
 lines_left true lines = behind lines
+
+abbrev pub is_empty_line : ℕ × List ℕ → Bool
+is_empty_line line = length line.1 == 0
+
+abbrev pub is_full : List (ℕ × List ℕ) → Bool
+is_full [] = false
+is_full (line ∷ others) = true
+
+-- the stretches of lines between empty ones, without those that have no line
+abbrev pub stretches : List (ℕ × List ℕ) → List (List (ℕ × List ℕ))
+stretches lines = filter is_full (slice_split is_empty_line lines)

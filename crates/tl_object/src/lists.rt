@@ -3,7 +3,7 @@ ghost use Rattle.std.specs.Prelude.{◌≡◌, ◌++◌, ◌∷◌, [], true, fa
 ghost use Rattle.tl_object.specs.Forms.{is_platform};
 ghost use Rattle.tl_object.specs.Rising.{is_rising, has_key, insert_by};
 
-use crate::object::{BinFiles, DocFile, Fact};
+use crate::object::{BinFiles, DocFile, Fact, Object};
 use crate::rising::{Keyed, place_for};
 use std::alloc::{AllocError, Global};
 use std::marker::Model;
@@ -267,6 +267,14 @@ impl Keyed for DocFile {
 
     fn key(&self) -> &[u8] {
         self.path.bytes()
+    }
+}
+
+impl Keyed for Object {
+    ghost key = { λ object. object.name };
+
+    fn key(&self) -> &[u8] {
+        self.name.bytes()
     }
 }
 

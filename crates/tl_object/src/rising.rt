@@ -5,7 +5,7 @@ ghost use Rattle.tl_object.specs.Rising.{is_rising, has_key, IsPlace};
 use std::cmp::Ordering;
 
 /// What has a text as its key.
-pub(crate) trait Keyed {
+pub trait Keyed {
     ghost key: { Self → List ℕ };
 
     fn key(&self) -> &[u8]
@@ -21,7 +21,7 @@ fn next_try(low: usize, high: usize, len: usize) -> usize
 }
 
 /// Where an element with this key goes in among elements that rise by their keys; `None` where one has this key.
-pub(crate) fn place_for<T: Keyed>(items: &[T], wanted: &[u8]) -> Option<usize>
+pub fn place_for<T: Keyed>(items: &[T], wanted: &[u8]) -> Option<usize>
     requires { is_rising T.key items.now ≡ true }
     ensures { MatchOption result (has_key T.key wanted.now items.now ≡ true) (λ at. IsPlace T.key wanted.now items.now at) }
 {
@@ -37,3 +37,4 @@ pub(crate) fn place_for<T: Keyed>(items: &[T], wanted: &[u8]) -> Option<usize>
     }
     Some(low)
 }
+

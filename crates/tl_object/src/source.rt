@@ -1,7 +1,7 @@
 //! The lines of a text that count, and texts cut in two.
-ghost use Rattle.std.specs.Prelude.{◌≡◌, ◌+◌, ◌<◌, ◌^◌, ◌≤◌, [], ◌∷◌, length, MatchOption, ⊤};
+ghost use Rattle.std.specs.Prelude.{◌≡◌, ◌+◌, ◌<◌, ◌^◌, ◌≤◌, [], ◌∷◌, length, MatchOption, ⊤, true};
 ghost use Rattle.tl_model.specs.Lines.{lines};
-ghost use Rattle.tl_object.specs.Content.{content, is_comment, entry_lines, lines_left};
+ghost use Rattle.tl_object.specs.Content.{content, is_comment, entry_lines, lines_left, front, is_full, stretches};
 ghost use Rattle.tl_object.specs.Cuts.{cut};
 
 use memchr::memchr;
@@ -85,4 +85,25 @@ pub(crate) fn next_entry_line(stops: bool, before: u32, text: &[u8]) -> Option<F
         }
         None => None,
     }
+}
+
+/// Where the next entry of a text with several begins: the number of lines before it, and the text from its first line on;
+/// `None` where no line is left but empty ones and those that are passed over.
+pub fn next_entry(before: u32, text: &[u8]) -> Option<(u32, &[u8])>
+    requires { before + length text.now < 2 ^ 32 }
+    ensures same { MatchOption result (stretches (content before text.now) ≡ []) (λ at. stretches (content before text.now) ≡ stretches (content at.0 at.1.now)) }
+    ensures full { MatchOption result ⊤ (λ at. is_full (front (content at.0 at.1.now)) ≡ true) }
+    ensures shorter { MatchOption result ⊤ (λ at. length at.1.now ≤ length text.now) }
+    ensures fits { MatchOption result ⊤ (λ at. at.0 + length at.1.now ≤ before + length text.now) }
+{
+    let mut number = before;
+    let mut rest = text;
+    while let Some(found) = next_line(number, rest) {
+        if !found.line.is_empty() {
+            return Some((number, rest));
+        }
+        number = found.number;
+        rest = found.rest;
+    }
+    None
 }
