@@ -12,6 +12,8 @@ mod object;
 mod read;
 mod rising;
 mod source;
+#[cfg(test)]
+mod tests;
 mod value;
 mod write;
 
