@@ -1,0 +1,6 @@
+pub mod CutLemmas
+pub mod LineLemmas
+pub mod RisingLemmas
+pub mod BuiltLemmas
+pub mod ReadingLemmas
+pub mod StretchLemmas

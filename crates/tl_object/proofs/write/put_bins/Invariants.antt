@@ -1,0 +1,7 @@
+use Rattle.std.proofs.Common.{◌≡◌, ◌++◌, take}
+use Rattle.std.specs.List.{flat_map}
+use Rattle.tl_object.specs.Writing.{bin_lines}
+use Rattle.tl_object.proofs.write.put_bins.Given as goal
+
+abbrev pub invariant-loop-bin : goal.invariant-loop-bin
+invariant-loop-bin l = l.out.items ≡ l.fn.out.items ++ flat_map bin_lines (take l.bin-index l.bins)

@@ -1,0 +1,7 @@
+use Rattle.std.proofs.Common.{◌≡◌, ◌++◌, take}
+use Rattle.std.specs.List.{flat_map}
+use Rattle.tl_object.specs.Writing.{file_line}
+use Rattle.tl_object.proofs.write.put_doc_files.Given as goal
+
+abbrev pub invariant-loop-file : goal.invariant-loop-file
+invariant-loop-file l = l.out.items ≡ l.fn.out.items ++ flat_map file_line (take l.file-index l.files)

@@ -1,0 +1,14 @@
+pub mod Keys
+pub mod Content
+pub mod Cuts
+pub mod Forms
+pub mod Values
+pub mod Parts
+pub mod Rising
+pub mod Grammar
+pub mod Groups
+pub mod Reading
+pub mod Built
+pub mod Known
+pub mod Writing
+pub mod Steps

@@ -1,0 +1,84 @@
+//! The lines of files.
+ghost use Rattle.std.specs.Prelude.{◌≡◌, List, IfOk, IfSome, MatchOption, Some, None, true};
+ghost use Rattle.tl_object.specs.Forms.{has_no_quote, is_unquoted};
+ghost use Rattle.tl_object.specs.Values.{Gives};
+ghost use Rattle.tl_object.specs.Grammar.{quoted, mark_value, second_mark, marked_file, file_value};
+
+use crate::fault::{LineFault, LineKind};
+use crate::object::DocFile;
+use crate::source::cut_at;
+use crate::value::{after_word, path_of};
+use std::alloc::Global;
+use tl_path::Path;
+use tl_text::{Text, TextError};
+
+const BAD_FILE: LineFault = LineFault::Bad(LineKind::File);
+const DETAILS: &[u8] = b"details=\"";
+const LANGUAGE: &[u8] = b"language=\"";
+
+fn quoted<'a>(text: &'a [u8], word: &[u8]) -> Option<(&'a [u8], &'a [u8])>
+    ensures found { MatchOption result (quoted word.now text.now ≡ None) (λ parts. quoted word.now text.now ≡ Some (parts.0.now, parts.1.now)) }
+    ensures plain { IfSome result (λ parts. has_no_quote parts.0.now ≡ true) }
+{
+    match after_word(text, word) {
+        Some(rest) => cut_at(rest, b'"'),
+        None => None,
+    }
+}
+
+fn mark_of(alloc: Global, text: &[u8]) -> Result<Text, LineFault>
+    ensures mark { Gives result (mark_value text.now) }
+    ensures same { IfOk result (λ mark. mark ≡ text.now) }
+{
+    match Text::parse(alloc, text) {
+        Ok(mark) => Ok(mark),
+        Err(TextError::NotText) => Err(BAD_FILE),
+        Err(TextError::NoMemory) => Err(LineFault::NoMemory),
+    }
+}
+
+fn second_mark(alloc: Global, word: &[u8], text: &[u8]) -> Result<Option<Text>, LineFault>
+    ensures mark { Gives result (second_mark word.now text.now) }
+    ensures plain { IfOk result (λ mark. is_unquoted mark ≡ true) }
+{
+    match text {
+        [] => Ok(None),
+        [b' ', rest @ ..] => match quoted(rest, word) {
+            Some((mark, [])) => Ok(Some(mark_of(alloc, mark)?)),
+            _ => Err(BAD_FILE),
+        },
+        [_, ..] => Err(BAD_FILE),
+    }
+}
+
+fn marked_file(alloc: Global, path: Path, marks: &[u8]) -> Result<DocFile, LineFault>
+    ensures { Gives result (marked_file path marks.now) }
+{
+    if let Some((details, rest)) = quoted(marks, DETAILS) {
+        let details = Some(mark_of(alloc, details)?);
+        let language = second_mark(alloc, LANGUAGE, rest)?;
+        return Ok(DocFile { path, details, language });
+    }
+    let Some((language, rest)) = quoted(marks, LANGUAGE) else {
+        return Err(BAD_FILE);
+    };
+    let language = Some(mark_of(alloc, language)?);
+    let details = second_mark(alloc, DETAILS, rest)?;
+    Ok(DocFile { path, details, language })
+}
+
+/// The file of a line, without the space at its front.
+pub(crate) fn file_of(alloc: Global, text: &[u8]) -> Result<DocFile, LineFault>
+    ensures { Gives result (file_value text.now) }
+{
+    match cut_at(text, b' ') {
+        None => {
+            let path = path_of(alloc, text)?;
+            Ok(DocFile { path, details: None, language: None })
+        }
+        Some((path, marks)) => {
+            let path = path_of(alloc, path)?;
+            marked_file(alloc, path, marks)
+        }
+    }
+}
