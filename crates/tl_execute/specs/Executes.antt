@@ -1,6 +1,6 @@
 -- What an execute says, and its first fault.
 use Rattle.std.specs.Prelude.{◌≡◌, ℕ, ◌<◌, ◌==◌, ◌^◌, nat_lt, Bool, true, false, not, ◌||◌, ◌&&◌, if◌then◌else◌, List, [], ◌∷◌, map, Option, Some, None, is_some, unwrap_or, Result, Ok, Err, codes}
-use Rattle.std.specs.List.{list_all, list_any}
+use Rattle.std.specs.List.{list_all, list_any, slice_split}
 use Rattle.std.specs.Str.{bytes_eq}
 use Rattle.tl_model.specs.Decimal.{is_decimal, decimal_value}
 use Rattle.tl_model.specs.Words.{is_full, is_open_after, quoted_words}
@@ -118,7 +118,7 @@ some_full (Some (b ∷ value)) = Some (b ∷ value)
 -- whether a hyphenation stands in a database, by the list of its databases or by the default
 abbrev pub is_listed : List ℕ → Bool → Option (List ℕ) → Bool
 is_listed name default None = default
-is_listed name default (Some databases) = list_any (λ word. bytes_eq word name || bytes_eq word (codes "all")) (parts databases)
+is_listed name default (Some databases) = list_any (λ word. bytes_eq word name || bytes_eq word (codes "all")) (slice_split (λ b. b == 44) databases)
 
 -- a hyphenation whose name, file and least numbers are given
 abbrev pub hyphen_from : List ℕ → List ℕ → ℕ → ℕ → List (List ℕ) → Result Execute ExecuteKind

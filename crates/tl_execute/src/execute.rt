@@ -1,5 +1,5 @@
 //! What an execute says.
-use std::alloc::AllocError;
+use std::alloc::{AllocError, AllocFailed};
 use std::marker::Model;
 use tl_text::Text;
 
@@ -115,6 +115,17 @@ impl From<AllocError> for ExecuteError {
     ghost from_gives = { λ _ e. e ≡ NoMemory };
 
     fn from(_error: AllocError) -> ExecuteError {
+        ExecuteError::NoMemory
+    }
+}
+
+impl<T: Drop> From<AllocFailed<T>> for ExecuteError {
+    ghost use Rattle.std.specs.Prelude.{◌≡◌};
+    ghost use Rattle.tl_execute.specs.declared.execute.ExecuteError.TheVariants.{NoMemory};
+
+    ghost from_gives = { λ _ e. e ≡ NoMemory };
+
+    fn from(_error: AllocFailed<T>) -> ExecuteError {
         ExecuteError::NoMemory
     }
 }

@@ -2,6 +2,7 @@
 #![tactic(auto)]
 
 mod execute;
+mod list;
 mod part;
 mod value;
 
