@@ -60,15 +60,11 @@ read_map kind (word ∷ next ∷ others) = Err Value
 
 -- whether a word begins with a key of a format
 abbrev pub is_format_word : List ℕ → Bool
-is_format_word word =
-    ((has_key (codes "name=") word || has_key (codes "engine=") word) || has_key (codes "options=") word)
-    || ((has_key (codes "patterns=") word || has_key (codes "mode=") word) || has_key (codes "fmttriggers=") word)
+is_format_word word = has_key (codes "name=") word || has_key (codes "engine=") word || has_key (codes "options=") word || has_key (codes "patterns=") word || has_key (codes "mode=") word || has_key (codes "fmttriggers=") word
 
 -- whether a key of a format comes twice
 abbrev pub is_format_repeated : List (List ℕ) → Bool
-is_format_repeated words =
-    ((is_repeated (codes "name=") words || is_repeated (codes "engine=") words) || is_repeated (codes "options=") words)
-    || ((is_repeated (codes "patterns=") words || is_repeated (codes "mode=") words) || is_repeated (codes "fmttriggers=") words)
+is_format_repeated words = is_repeated (codes "name=") words || is_repeated (codes "engine=") words || is_repeated (codes "options=") words || is_repeated (codes "patterns=") words || is_repeated (codes "mode=") words || is_repeated (codes "fmttriggers=") words
 
 -- whether a format is disabled: an absent mode is `enabled`
 abbrev pub read_mode : Option (List ℕ) → Result Bool ExecuteKind
@@ -91,17 +87,11 @@ read_format words =
 
 -- whether a word begins with a key of a hyphenation
 abbrev pub is_hyphen_word : List ℕ → Bool
-is_hyphen_word word =
-    ((has_key (codes "name=") word || has_key (codes "lefthyphenmin=") word) || (has_key (codes "righthyphenmin=") word || has_key (codes "synonyms=") word))
-    || (((has_key (codes "file=") word || has_key (codes "file_patterns=") word) || (has_key (codes "file_exceptions=") word || has_key (codes "luaspecial=") word))
-    || (has_key (codes "databases=") word || has_key (codes "comment=") word))
+is_hyphen_word word = has_key (codes "name=") word || has_key (codes "lefthyphenmin=") word || has_key (codes "righthyphenmin=") word || has_key (codes "synonyms=") word || has_key (codes "file=") word || has_key (codes "file_patterns=") word || has_key (codes "file_exceptions=") word || has_key (codes "luaspecial=") word || has_key (codes "databases=") word || has_key (codes "comment=") word
 
 -- whether a key of a hyphenation comes twice
 abbrev pub is_hyphen_repeated : List (List ℕ) → Bool
-is_hyphen_repeated words =
-    ((is_repeated (codes "name=") words || is_repeated (codes "lefthyphenmin=") words) || (is_repeated (codes "righthyphenmin=") words || is_repeated (codes "synonyms=") words))
-    || (((is_repeated (codes "file=") words || is_repeated (codes "file_patterns=") words) || (is_repeated (codes "file_exceptions=") words || is_repeated (codes "luaspecial=") words))
-    || (is_repeated (codes "databases=") words || is_repeated (codes "comment=") words))
+is_hyphen_repeated words = is_repeated (codes "name=") words || is_repeated (codes "lefthyphenmin=") words || is_repeated (codes "righthyphenmin=") words || is_repeated (codes "synonyms=") words || is_repeated (codes "file=") words || is_repeated (codes "file_patterns=") words || is_repeated (codes "file_exceptions=") words || is_repeated (codes "luaspecial=") words || is_repeated (codes "databases=") words || is_repeated (codes "comment=") words
 
 -- a least number of letters; an absent or empty one is the default
 abbrev pub read_least : ℕ → Option (List ℕ) → Result ℕ ExecuteKind
@@ -129,15 +119,19 @@ hyphen_from name file left right words =
     and_then (read_option (some_full (value_of (codes "luaspecial=") words))) (λ special.
     let databases = value_of (codes "databases=") words in
     Ok (Hyphen name file left right synonyms (is_listed (codes "dat") true databases) (is_listed (codes "def") true databases)
-      (is_listed (codes "lua") (is_some patterns || (is_some exceptions || is_some special)) databases) patterns exceptions special)))))))
+      (is_listed (codes "lua") (is_some patterns || is_some exceptions || is_some special) databases) patterns exceptions special)))))))
+
+-- the least numbers of letters at the left and at the right
+abbrev pub least_of : List (List ℕ) → Result (ℕ × ℕ) ExecuteKind
+least_of words =
+    and_then (read_least 2 (value_of (codes "lefthyphenmin=") words)) (λ left. and_then (read_least 3 (value_of (codes "righthyphenmin=") words)) (λ right. Ok (left, right)))
 
 -- a hyphenation by the words behind its first
 abbrev pub read_hyphen : List (List ℕ) → Result Execute ExecuteKind
 read_hyphen words =
     if not (list_all is_hyphen_word words) then Err Key else (if is_hyphen_repeated words then Err Repeated else
     and_then (required (value_of (codes "name=") words)) (λ name. and_then (required (value_of (codes "file=") words)) (λ file.
-    and_then (read_least 2 (value_of (codes "lefthyphenmin=") words)) (λ left. and_then (read_least 3 (value_of (codes "righthyphenmin=") words)) (λ right.
-    hyphen_from name file left right words)))))
+    and_then (least_of words) (λ least. hyphen_from name file least.0 least.1 words))))
 
 -- an execute by its words
 abbrev pub read_words : List (List ℕ) → Result Execute ExecuteKind
@@ -152,3 +146,8 @@ read_words (first ∷ words) =
 -- what an execute says, or the first kind of fault that it has
 abbrev pub read_execute : List ℕ → Result Execute ExecuteKind
 read_execute text = if is_open_after false text then Err Quote else read_words (quoted_words text)
+
+-- a refusal for a double quote without partner; want of memory has no cause
+abbrev pub IsUnquoted : List ℕ → ExecuteError → Type 0
+IsUnquoted text (BadExecute kind) = (kind ≡ Quote) × (is_open_after false text ≡ true)
+IsUnquoted text NoMemory = Unit {0}

@@ -2,8 +2,12 @@
 #![tactic(auto)]
 
 mod execute;
+mod format;
+mod hyphen;
 mod list;
+mod map;
 mod part;
+mod read;
 mod value;
 
 pub use execute::{Execute, ExecuteError, ExecuteKind, MapKind, Texts};
