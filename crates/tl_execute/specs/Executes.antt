@@ -133,15 +133,19 @@ read_hyphen words =
     and_then (required (value_of (codes "name=") words)) (λ name. and_then (required (value_of (codes "file=") words)) (λ file.
     and_then (least_of words) (λ least. hyphen_from name file least.0 least.1 words))))
 
--- an execute by its words
-abbrev pub read_words : List (List ℕ) → Result Execute ExecuteKind
-read_words [] = Err Word
-read_words (first ∷ words) =
+-- an execute by its first word and those behind it
+abbrev pub read_first : List ℕ → List (List ℕ) → Result Execute ExecuteKind
+read_first first words =
     if bytes_eq first (codes "addMap") then read_map Plain words else
     (if bytes_eq first (codes "addMixedMap") then read_map Mixed words else
     (if bytes_eq first (codes "addKanjiMap") then read_map Kanji words else
     (if bytes_eq first (codes "AddFormat") then read_format words else
     (if bytes_eq first (codes "AddHyphen") then read_hyphen words else Err Word))))
+
+-- an execute by its words
+abbrev pub read_words : List (List ℕ) → Result Execute ExecuteKind
+read_words [] = Err Word
+read_words (first ∷ words) = read_first first words
 
 -- what an execute says, or the first kind of fault that it has
 abbrev pub read_execute : List ℕ → Result Execute ExecuteKind

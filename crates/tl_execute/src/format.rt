@@ -25,7 +25,12 @@ fn is_format_word(word: &[u8]) -> bool
 fn are_format_words(words: &[&[u8]]) -> bool
     ensures { result ≡ list_all the_executes.is_format_word (map (λ w. w.now) words.now) }
 {
-    words.iter().all(|word| is_format_word(word))
+    for word in words {
+        if !is_format_word(word) {
+            return false;
+        }
+    }
+    true
 }
 
 fn is_format_repeated(words: &[&[u8]]) -> bool

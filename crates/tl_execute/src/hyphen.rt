@@ -29,7 +29,12 @@ fn is_hyphen_word(word: &[u8]) -> bool
 fn are_hyphen_words(words: &[&[u8]]) -> bool
     ensures { result ≡ list_all the_executes.is_hyphen_word (map (λ w. w.now) words.now) }
 {
-    words.iter().all(|word| is_hyphen_word(word))
+    for word in words {
+        if !is_hyphen_word(word) {
+            return false;
+        }
+    }
+    true
 }
 
 fn is_hyphen_repeated(words: &[&[u8]]) -> bool

@@ -34,27 +34,31 @@ fn words_of<'t>(alloc: Global, text: &'t [u8]) -> Result<Vec<&'t [u8]>, ExecuteE
     Ok(words)
 }
 
+fn read_first(alloc: Global, first: &[u8], words: &[&[u8]]) -> Result<Execute, ExecuteError>
+    ensures { Gives (the_executes.read_first first.now (map (λ w. w.now) words.now)) result }
+{
+    if first == b"addMap".as_slice() {
+        read_map(alloc, MapKind::Plain, words)
+    } else if first == b"addMixedMap".as_slice() {
+        read_map(alloc, MapKind::Mixed, words)
+    } else if first == b"addKanjiMap".as_slice() {
+        read_map(alloc, MapKind::Kanji, words)
+    } else if first == b"AddFormat".as_slice() {
+        read_format(alloc, words)
+    } else if first == b"AddHyphen".as_slice() {
+        read_hyphen(alloc, words)
+    } else {
+        Err(ExecuteError::BadExecute {
+            kind: ExecuteKind::Word,
+        })
+    }
+}
+
 fn read_words(alloc: Global, words: &[&[u8]]) -> Result<Execute, ExecuteError>
     ensures { Gives (the_executes.read_words (map (λ w. w.now) words.now)) result }
 {
     match words {
-        [first, words @ ..] => {
-            if *first == b"addMap".as_slice() {
-                read_map(alloc, MapKind::Plain, words)
-            } else if *first == b"addMixedMap".as_slice() {
-                read_map(alloc, MapKind::Mixed, words)
-            } else if *first == b"addKanjiMap".as_slice() {
-                read_map(alloc, MapKind::Kanji, words)
-            } else if *first == b"AddFormat".as_slice() {
-                read_format(alloc, words)
-            } else if *first == b"AddHyphen".as_slice() {
-                read_hyphen(alloc, words)
-            } else {
-                Err(ExecuteError::BadExecute {
-                    kind: ExecuteKind::Word,
-                })
-            }
-        }
+        [first, words @ ..] => read_first(alloc, first, words),
         [] => Err(ExecuteError::BadExecute {
             kind: ExecuteKind::Word,
         }),
