@@ -30,7 +30,7 @@ pub texts_skip : (parts : List (Bor (List ℕ))) (read : List (List ℕ)) (i : �
     → TextsSoFar parts read i → TextsSoFar parts read (i + 1)
 texts_skip parts read i d within none here =
     let same : filter is_full (texts (drop i parts)) ≡ filter is_full (texts (drop (i + 1) parts)) =
-      next parts i d within ∙ ap (λ t. cond t ((get_or parts i d).now ∷ filter is_full (texts (drop (i + 1) parts))) (filter is_full (texts (drop (i + 1) parts)))) none in
+    next parts i d within ∙ ap (λ t. cond t ((get_or parts i d).now ∷ filter is_full (texts (drop (i + 1) parts))) (filter is_full (texts (drop (i + 1) parts)))) none in
     record { left = ap (λ (ps : List (List ℕ)). read ++ ps) (sym same) ∙ here.left; each = here.each }
 
 full_next : (parts : List (Bor (List ℕ))) (read : List (List ℕ)) (i : ℕ) (d : Bor (List ℕ)) → i < length parts → is_full (get_or parts i d).now ≡ true
@@ -51,7 +51,7 @@ pub texts_push : (parts : List (Bor (List ℕ))) (read : List (List ℕ)) (i : �
     → is_text (get_or parts i d).now ≡ true → TextsSoFar parts read i → TextsSoFar parts (read ++ (get_or parts i d).now ∷ []) (i + 1)
 texts_push parts read i d within some is here = record {
   left = full_next parts read i d within some here;
-  each = list_all-append is_text read ((get_or parts i d).now ∷ []) ∙ both _ _ here.each (both _ _ is refl)
+  each = list_all-append is_text read ((get_or parts i d).now ∷ []) ∙ both _ _ here.each (both _ _ is refl);
 }
 
 pub texts_done : (parts : List (Bor (List ℕ))) (read : List (List ℕ)) (i : ℕ) → length parts ≤ i → TextsSoFar parts read i → read_texts (filter is_full (texts parts)) ≡ Ok read

@@ -119,7 +119,7 @@ hyphen_from name file left right words =
     and_then (read_option (some_full (value_of (codes "luaspecial=") words))) (λ special.
     let databases = value_of (codes "databases=") words in
     Ok (Hyphen name file left right synonyms (is_listed (codes "dat") true databases) (is_listed (codes "def") true databases)
-      (is_listed (codes "lua") (is_some patterns || is_some exceptions || is_some special) databases) patterns exceptions special)))))))
+    (is_listed (codes "lua") (is_some patterns || is_some exceptions || is_some special) databases) patterns exceptions special)))))))
 
 -- the least numbers of letters at the left and at the right
 abbrev pub least_of : List (List ℕ) → Result (ℕ × ℕ) ExecuteKind

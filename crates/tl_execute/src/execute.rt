@@ -54,7 +54,10 @@ impl Texts {
 #[derive(Drop)]
 pub enum Execute {
     /// A map file.
-    Map { kind: MapKind, file: Text },
+    Map {
+        kind: MapKind,
+        file: Text,
+    },
     /// A format and the packages whose change makes it anew.
     Format {
         name: Text,

@@ -4,12 +4,11 @@ ghost use Rattle.std.specs.List.{list_all};
 ghost use Rattle.tl_execute.specs.Executes as the_executes;
 ghost use Rattle.tl_execute.specs.Executes.{Gives};
 
-use std::alloc::Global;
-
 use crate::execute::{Execute, ExecuteError, ExecuteKind};
 use crate::list::read_list;
 use crate::part::{read_full, read_mode, read_option};
-use crate::value::{has_key, is_repeated, value_of, Unquoted};
+use crate::value::{Unquoted, has_key, is_repeated, value_of};
+use std::alloc::Global;
 
 fn is_format_word(word: &[u8]) -> bool
     ensures { result ≡ the_executes.is_format_word word.now }
@@ -44,7 +43,12 @@ fn is_format_repeated(words: &[&[u8]]) -> bool
         || is_repeated(words, "fmttriggers=")
 }
 
-fn format_from(alloc: Global, name: &Unquoted, engine: &Unquoted, words: &[&[u8]]) -> Result<Execute, ExecuteError>
+fn format_from(
+    alloc: Global,
+    name: &Unquoted,
+    engine: &Unquoted,
+    words: &[&[u8]],
+) -> Result<Execute, ExecuteError>
     ensures { Gives (the_executes.format_from name.now engine.now (map (λ w. w.now) words.now)) result }
 {
     let name = read_full(alloc, name)?;

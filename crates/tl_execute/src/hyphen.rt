@@ -4,12 +4,11 @@ ghost use Rattle.std.specs.List.{list_all};
 ghost use Rattle.tl_execute.specs.Executes as the_executes;
 ghost use Rattle.tl_execute.specs.Executes.{Gives};
 
-use std::alloc::Global;
-
 use crate::execute::{Execute, ExecuteError, ExecuteKind};
 use crate::list::{is_listed, read_least, read_list};
 use crate::part::{read_full, read_option, some_full};
-use crate::value::{has_key, is_repeated, value_of, Unquoted};
+use crate::value::{Unquoted, has_key, is_repeated, value_of};
+use std::alloc::Global;
 
 fn is_hyphen_word(word: &[u8]) -> bool
     ensures { result ≡ the_executes.is_hyphen_word word.now }
@@ -65,7 +64,10 @@ fn hyphen_from(
     let file = read_full(alloc, file)?;
     let synonyms = read_list(alloc, &value_of(alloc, words, "synonyms=")?)?;
     let patterns = read_option(alloc, some_full(value_of(alloc, words, "file_patterns=")?))?;
-    let exceptions = read_option(alloc, some_full(value_of(alloc, words, "file_exceptions=")?))?;
+    let exceptions = read_option(
+        alloc,
+        some_full(value_of(alloc, words, "file_exceptions=")?),
+    )?;
     let special = read_option(alloc, some_full(value_of(alloc, words, "luaspecial=")?))?;
     let databases = value_of(alloc, words, "databases=")?;
     let lua = patterns.is_some() || exceptions.is_some() || special.is_some();
@@ -109,7 +111,13 @@ pub fn read_hyphen(alloc: Global, words: &[&[u8]]) -> Result<Execute, ExecuteErr
     let name = value_of(alloc, words, "name=")?;
     let file = value_of(alloc, words, "file=")?;
     match (name, file) {
-        (Some(name), Some(file)) => hyphen_from(alloc, &name, &file, least_of(alloc, words)?, words),
+        (Some(name), Some(file)) => hyphen_from(
+            alloc,
+            &name,
+            &file,
+            least_of(alloc, words)?,
+            words,
+        ),
         _ => Err(ExecuteError::BadExecute {
             kind: ExecuteKind::Missing,
         }),

@@ -6,12 +6,11 @@ ghost use Rattle.tl_execute.specs.Values as the_values;
 ghost use Rattle.tl_execute.specs.Executes as the_executes;
 ghost use Rattle.tl_execute.specs.Executes.{Gives};
 
-use std::alloc::{AllocError, Global};
-use tl_text::decimal_u32;
-
 use crate::execute::{ExecuteError, ExecuteKind, Texts};
 use crate::part::{is_full, read_text};
 use crate::value::Unquoted;
+use std::alloc::{AllocError, Global};
+use tl_text::decimal_u32;
 
 fn split_at_commas<'t>(alloc: Global, value: &'t [u8]) -> Result<Vec<&'t [u8]>, AllocError>
     ensures { IfOk result (λ parts. map (λ p. p.now) parts.items ≡ slice_split (λ b. b == 44) value.now) }
@@ -51,7 +50,9 @@ fn is_database(word: &[u8], name: &str) -> bool
 fn has_database(databases: &[u8], name: &str) -> bool
     ensures { result ≡ list_any (λ word. bytes_eq word name.now || bytes_eq word (codes "all")) (slice_split (λ b. b == 44) databases.now) }
 {
-    databases.split(|b| *b == b',').any(|word| is_database(word, name))
+    databases
+        .split(|b| *b == b',')
+        .any(|word| is_database(word, name))
 }
 
 /// Whether a list of databases has this one or `all`; without a list the default. Takes no memory.

@@ -3,11 +3,10 @@ ghost use Rattle.std.specs.Prelude.{map};
 ghost use Rattle.tl_execute.specs.Executes as the_executes;
 ghost use Rattle.tl_execute.specs.Executes.{Gives};
 
-use std::alloc::Global;
-
 use crate::execute::{Execute, ExecuteError, ExecuteKind, MapKind};
 use crate::part::read_full;
 use crate::value::Unquoted;
+use std::alloc::Global;
 
 /// The map whose file is the one word.
 pub fn read_map(alloc: Global, kind: MapKind, words: &[&[u8]]) -> Result<Execute, ExecuteError>

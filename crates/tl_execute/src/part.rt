@@ -5,11 +5,10 @@ ghost use Rattle.tl_execute.specs.Values as the_values;
 ghost use Rattle.tl_execute.specs.Executes as the_executes;
 ghost use Rattle.tl_execute.specs.Executes.{Gives};
 
-use std::alloc::Global;
-use tl_text::{Text, TextError};
-
 use crate::execute::{ExecuteError, ExecuteKind, Texts};
 use crate::value::Unquoted;
+use std::alloc::Global;
+use tl_text::{Text, TextError};
 
 /// Whether a value has a byte. Takes no memory.
 pub fn is_full(value: &[u8]) -> bool

@@ -4,13 +4,12 @@ ghost use Rattle.tl_model.specs.Words as the_words;
 ghost use Rattle.tl_execute.specs.Executes as the_executes;
 ghost use Rattle.tl_execute.specs.Executes.{Gives, IsUnquoted};
 
-use std::alloc::Global;
-use tl_text::{quoted_words, QuoteError};
-
 use crate::execute::{Execute, ExecuteError, ExecuteKind, MapKind};
 use crate::format::read_format;
 use crate::hyphen::read_hyphen;
 use crate::map::read_map;
+use std::alloc::Global;
+use tl_text::{QuoteError, quoted_words};
 
 fn words_of<'t>(alloc: Global, text: &'t [u8]) -> Result<Vec<&'t [u8]>, ExecuteError>
     requires { length text.now < 2 ^ 32 }

@@ -1,0 +1,11 @@
+//! The five files that are made from the executes of a database.
+#![tactic(auto)]
+
+mod file;
+mod format;
+mod hyphen;
+mod lua;
+mod map;
+mod say;
+
+pub use file::{push_lines, ConfigFile};
