@@ -111,12 +111,20 @@ lua_synonyms synonyms = codes "\t\tsynonyms = " ++ synonym_list synonyms ++ code
 abbrev pub lua_options : Option (List ℕ) → Option (List ℕ) → Option (List ℕ) → List ℕ
 lua_options patterns exceptions special = option_line (codes "patterns") patterns ++ option_line (codes "hyphenation") exceptions ++ option_line (codes "special") special
 
+-- the first lines of a hyphenation
+abbrev pub lua_first : List ℕ → List ℕ → ℕ → ℕ → List ℕ
+lua_first name file left right = lua_head name file ++ lua_least left right
+
+-- the last lines of a hyphenation
+abbrev pub lua_last : List (List ℕ) → Option (List ℕ) → Option (List ℕ) → Option (List ℕ) → List ℕ
+lua_last synonyms patterns exceptions special = lua_synonyms synonyms ++ lua_options patterns exceptions special ++ codes "\t},\n"
+
 -- the lines of a hyphenation in language.dat.lua
 abbrev pub lua_lines : Execute → List ℕ
 lua_lines (Map kind file) = []
 lua_lines (Format name engine options patterns disabled triggers) = []
 lua_lines (Hyphen name file left right synonyms dat def true patterns exceptions special) =
-    lua_head name file ++ lua_least left right ++ lua_synonyms synonyms ++ lua_options patterns exceptions special ++ codes "\t},\n"
+    lua_first name file left right ++ lua_last synonyms patterns exceptions special
 lua_lines (Hyphen name file left right synonyms dat def false patterns exceptions special) = []
 
 -- the lines of an execute in a file

@@ -2,13 +2,12 @@
 ghost use Rattle.std.specs.Prelude.{◌≡◌, ◌<◌, ◌^◌, ◌++◌, length, OnOk};
 ghost use Rattle.tl_config.specs.Files as the_files;
 
-use std::alloc::{AllocError, Global};
-use tl_execute::{Execute, ExecuteError};
-
 use crate::format::push_fmtutil;
 use crate::hyphen::{push_dat, push_def};
 use crate::lua::push_lua;
 use crate::map::push_updmap;
+use std::alloc::{AllocError, Global};
+use tl_execute::{Execute, ExecuteError};
 
 /// A file that is made from the executes of a database.
 #[derive(Clone, Copy, Debug, PartialEq, Eq)]
@@ -20,7 +19,12 @@ pub enum ConfigFile {
     LanguageLua,
 }
 
-fn push_execute(alloc: Global, file: ConfigFile, out: &mut Vec<u8>, execute: &Execute) -> Result<(), AllocError>
+fn push_execute(
+    alloc: Global,
+    file: ConfigFile,
+    out: &mut Vec<u8>,
+    execute: &Execute,
+) -> Result<(), AllocError>
     ensures { OnOk result (out.new.items ≡ out.old.items ++ the_files.execute_lines file execute.now) }
 {
     match file {
@@ -33,7 +37,12 @@ fn push_execute(alloc: Global, file: ConfigFile, out: &mut Vec<u8>, execute: &Ex
 }
 
 /// Adds the lines that the text of an execute gives to a file. An execute that doesn't read gives nothing.
-pub fn push_lines(alloc: Global, file: ConfigFile, out: &mut Vec<u8>, execute: &[u8]) -> Result<(), AllocError>
+pub fn push_lines(
+    alloc: Global,
+    file: ConfigFile,
+    out: &mut Vec<u8>,
+    execute: &[u8],
+) -> Result<(), AllocError>
     requires { length execute.now < 2 ^ 32 }
     ensures { OnOk result (out.new.items ≡ out.old.items ++ the_files.lines_of file execute.now) }
 {

@@ -3,11 +3,10 @@ ghost use Rattle.std.specs.Prelude.{◌≡◌, ◌++◌, unwrap_or, OnOk};
 ghost use Rattle.std.specs.Option.{option_copied};
 ghost use Rattle.tl_config.specs.Files as the_files;
 
+use crate::say::say;
 use std::alloc::AllocError;
 use tl_execute::Execute;
 use tl_text::Text;
-
-use crate::say::say;
 
 fn text_or<'t>(text: &'t Option<Text>, default: &'t str) -> &'t str
     ensures { result.now ≡ unwrap_or text.now default.now }
@@ -32,7 +31,15 @@ fn push_options(out: &mut Vec<u8>, options: &Option<Text>) -> Result<(), AllocEr
 pub fn push_fmtutil(out: &mut Vec<u8>, execute: &Execute) -> Result<(), AllocError>
     ensures { OnOk result (out.new.items ≡ out.old.items ++ the_files.fmtutil_lines execute.now) }
 {
-    if let Execute::Format { name, engine, options, patterns, disabled, .. } = execute {
+    if let Execute::Format {
+        name,
+        engine,
+        options,
+        patterns,
+        disabled,
+        ..
+    } = execute
+    {
         say(out, if *disabled { "#! " } else { "" })?;
         say(out, name.text())?;
         say(out, " ")?;

@@ -4,11 +4,10 @@ ghost use Rattle.std.specs.List.{flat_map};
 ghost use Rattle.tl_model.specs.Decimal.{decimal_text};
 ghost use Rattle.tl_config.specs.Files as the_files;
 
+use crate::say::{say, say_number};
 use std::alloc::{AllocError, Global};
 use tl_execute::Execute;
 use tl_text::Text;
-
-use crate::say::{say, say_number};
 
 fn push_synonyms(out: &mut Vec<u8>, synonyms: &[Text]) -> Result<(), AllocError>
     ensures { OnOk result (out.new.items ≡ out.old.items ++ flat_map the_files.synonym_line synonyms.now) }
@@ -25,7 +24,14 @@ fn push_synonyms(out: &mut Vec<u8>, synonyms: &[Text]) -> Result<(), AllocError>
 pub fn push_dat(out: &mut Vec<u8>, execute: &Execute) -> Result<(), AllocError>
     ensures { OnOk result (out.new.items ≡ out.old.items ++ the_files.dat_lines execute.now) }
 {
-    if let Execute::Hyphen { name, file, synonyms, dat: true, .. } = execute {
+    if let Execute::Hyphen {
+        name,
+        file,
+        synonyms,
+        dat: true,
+        ..
+    } = execute
+    {
         say(out, name.text())?;
         say(out, " ")?;
         say(out, file.text())?;
@@ -53,7 +59,13 @@ fn push_braced_number(alloc: Global, out: &mut Vec<u8>, number: u32) -> Result<(
     Ok(())
 }
 
-fn push_def_line(alloc: Global, out: &mut Vec<u8>, file: &Text, least: (u32, u32), name: &Text) -> Result<(), AllocError>
+fn push_def_line(
+    alloc: Global,
+    out: &mut Vec<u8>,
+    file: &Text,
+    least: (u32, u32),
+    name: &Text,
+) -> Result<(), AllocError>
     ensures { OnOk result (out.new.items ≡ out.old.items ++ the_files.def_line file.now least.0 least.1 name.now) }
 {
     say(out, "\\addlanguage")?;
@@ -66,7 +78,13 @@ fn push_def_line(alloc: Global, out: &mut Vec<u8>, file: &Text, least: (u32, u32
     Ok(())
 }
 
-fn push_def_synonyms(alloc: Global, out: &mut Vec<u8>, file: &Text, least: (u32, u32), synonyms: &[Text]) -> Result<(), AllocError>
+fn push_def_synonyms(
+    alloc: Global,
+    out: &mut Vec<u8>,
+    file: &Text,
+    least: (u32, u32),
+    synonyms: &[Text],
+) -> Result<(), AllocError>
     ensures { OnOk result (out.new.items ≡ out.old.items ++ flat_map (the_files.def_line file.now least.0 least.1) synonyms.now) }
 {
     for synonym in synonyms {
@@ -79,7 +97,16 @@ fn push_def_synonyms(alloc: Global, out: &mut Vec<u8>, file: &Text, least: (u32,
 pub fn push_def(alloc: Global, out: &mut Vec<u8>, execute: &Execute) -> Result<(), AllocError>
     ensures { OnOk result (out.new.items ≡ out.old.items ++ the_files.def_lines execute.now) }
 {
-    if let Execute::Hyphen { name, file, left, right, synonyms, def: true, .. } = execute {
+    if let Execute::Hyphen {
+        name,
+        file,
+        left,
+        right,
+        synonyms,
+        def: true,
+        ..
+    } = execute
+    {
         let least = (*left, *right);
         push_def_line(alloc, out, file, least, name)?;
         push_def_synonyms(alloc, out, file, least, synonyms.as_slice())?;

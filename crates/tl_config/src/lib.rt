@@ -8,4 +8,4 @@ mod lua;
 mod map;
 mod say;
 
-pub use file::{push_lines, ConfigFile};
+pub use file::{ConfigFile, push_lines};

@@ -3,11 +3,10 @@ ghost use Rattle.std.specs.Prelude.{◌≡◌, ◌++◌, OnOk};
 ghost use Rattle.std.specs.List.{flat_map};
 ghost use Rattle.tl_config.specs.Files as the_files;
 
+use crate::say::{say, say_number};
 use std::alloc::{AllocError, Global};
 use tl_execute::Execute;
 use tl_text::Text;
-
-use crate::say::{say, say_number};
 
 fn push_bytes(out: &mut Vec<u8>, value: &[u8]) -> Result<(), AllocError>
     ensures { OnOk result (out.new.items ≡ out.old.items ++ flat_map the_files.quoted_byte value.now) }
@@ -111,16 +110,54 @@ fn push_options(
     Ok(())
 }
 
+fn push_first(
+    alloc: Global,
+    out: &mut Vec<u8>,
+    name: &Text,
+    file: &Text,
+    least: (u32, u32),
+) -> Result<(), AllocError>
+    ensures { OnOk result (out.new.items ≡ out.old.items ++ the_files.lua_first name.now file.now least.0 least.1) }
+{
+    push_head(out, name, file)?;
+    push_least(alloc, out, least.0, least.1)?;
+    Ok(())
+}
+
+fn push_last(
+    out: &mut Vec<u8>,
+    synonyms: &[Text],
+    patterns: &Option<Text>,
+    exceptions: &Option<Text>,
+    special: &Option<Text>,
+) -> Result<(), AllocError>
+    ensures { OnOk result (out.new.items ≡ out.old.items ++ the_files.lua_last synonyms.now patterns.now exceptions.now special.now) }
+{
+    push_synonyms_line(out, synonyms)?;
+    push_options(out, patterns, exceptions, special)?;
+    say(out, "\t},\n")?;
+    Ok(())
+}
+
 /// Adds the lines that an execute gives to language.dat.lua.
 pub fn push_lua(alloc: Global, out: &mut Vec<u8>, execute: &Execute) -> Result<(), AllocError>
     ensures { OnOk result (out.new.items ≡ out.old.items ++ the_files.lua_lines execute.now) }
 {
-    if let Execute::Hyphen { name, file, left, right, synonyms, lua: true, patterns, exceptions, special, .. } = execute {
-        push_head(out, name, file)?;
-        push_least(alloc, out, *left, *right)?;
-        push_synonyms_line(out, synonyms.as_slice())?;
-        push_options(out, patterns, exceptions, special)?;
-        say(out, "\t},\n")?;
+    if let Execute::Hyphen {
+        name,
+        file,
+        left,
+        right,
+        synonyms,
+        lua: true,
+        patterns,
+        exceptions,
+        special,
+        ..
+    } = execute
+    {
+        push_first(alloc, out, name, file, (*left, *right))?;
+        push_last(out, synonyms.as_slice(), patterns, exceptions, special)?;
     }
     Ok(())
 }

@@ -2,10 +2,9 @@
 ghost use Rattle.std.specs.Prelude.{◌≡◌, ◌++◌, OnOk};
 ghost use Rattle.tl_config.specs.Files as the_files;
 
+use crate::say::say;
 use std::alloc::AllocError;
 use tl_execute::{Execute, MapKind};
-
-use crate::say::say;
 
 fn map_word(kind: MapKind) -> &'static str
     ensures { result.now ≡ the_files.map_word kind }

@@ -1,5 +1,5 @@
 -- The values that the words of an execute give to keys.
-use Rattle.std.specs.Prelude.{ℕ, ◌==◌, ◌<◌, nat_eq, nat_lt, Bool, true, false, not, ◌||◌, ◌&&◌, if◌then◌else◌, List, [], ◌∷◌, length, drop, filter, map, Option, Some, None}
+use Rattle.std.specs.Prelude.{ℕ, ◌==◌, nat_eq, nat_lt, Bool, not, List, length, drop, filter, Option}
 use Rattle.std.specs.List.{starts_with, find, slice_split, count_by}
 use Rattle.std.specs.Option.{option_map}
 use Rattle.tl_model.specs.Words.{is_full}

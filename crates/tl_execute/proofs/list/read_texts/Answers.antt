@@ -1,4 +1,4 @@
-use Rattle.std.proofs.Common.{◌≡◌, ◌∙◌, ap, sym, List, ℕ, Bor}
+use Rattle.std.proofs.Common.{◌∙◌, ap, sym, List, ℕ, Bor}
 use Rattle.tl_execute.proofs.Finds.{texts}
 use Rattle.tl_execute.proofs.Lists.{texts_err}
 use Rattle.std.proofs.lemmas.Result.{err_from_is_err_and}
