@@ -1,5 +1,6 @@
 //! The lines of an execute in each of the files.
 ghost use Rattle.std.specs.Prelude.{◌≡◌, ◌<◌, ◌^◌, ◌++◌, length, OnOk};
+ghost use Rattle.std.specs.List.{flat_map};
 ghost use Rattle.tl_config.specs.Files as the_files;
 
 use crate::format::push_fmtutil;
@@ -8,6 +9,7 @@ use crate::lua::push_lua;
 use crate::map::push_updmap;
 use std::alloc::{AllocError, Global};
 use tl_execute::{Execute, ExecuteError};
+use tl_text::Text;
 
 /// A file that is made from the executes of a database.
 #[derive(Clone, Copy, Debug, PartialEq, Eq)]
@@ -17,6 +19,31 @@ pub enum ConfigFile {
     LanguageDat,
     LanguageDef,
     LanguageLua,
+}
+
+impl ConfigFile {
+    /// The lines at the head of this file. Takes no memory.
+    pub fn head(self) -> &'static str
+        ensures { result.now ≡ the_files.head_of self }
+    {
+        match self {
+            ConfigFile::Updmap => "# updmap.cfg, written by tlmgr\n",
+            ConfigFile::Fmtutil => "# fmtutil.cnf, written by tlmgr\n",
+            ConfigFile::LanguageDat => "% language.dat, written by tlmgr\n",
+            ConfigFile::LanguageDef => "% language.def, written by tlmgr\n",
+            ConfigFile::LanguageLua => "-- language.dat.lua, written by tlmgr\nreturn {\n",
+        }
+    }
+
+    /// The lines at the end of this file. Takes no memory.
+    pub fn end(self) -> &'static str
+        ensures { result.now ≡ the_files.end_of self }
+    {
+        match self {
+            ConfigFile::LanguageLua => "}\n",
+            _ => "",
+        }
+    }
 }
 
 fn push_execute(
@@ -51,4 +78,19 @@ pub fn push_lines(
         Err(ExecuteError::BadExecute { .. }) => Ok(()),
         Err(ExecuteError::NoMemory) => Err(AllocError),
     }
+}
+
+/// Adds the lines that the texts of executes give to a file, in order.
+pub fn push_executes(
+    alloc: Global,
+    file: ConfigFile,
+    out: &mut Vec<u8>,
+    executes: &[Text],
+) -> Result<(), AllocError>
+    ensures { OnOk result (out.new.items ≡ out.old.items ++ flat_map (the_files.lines_of file) executes.now) }
+{
+    for execute in executes {
+        push_lines(alloc, file, out, execute.bytes())?;
+    }
+    Ok(())
 }

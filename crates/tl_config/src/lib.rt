@@ -7,5 +7,7 @@ mod hyphen;
 mod lua;
 mod map;
 mod say;
+#[cfg(test)]
+mod tests;
 
-pub use file::{ConfigFile, push_lines};
+pub use file::{ConfigFile, push_executes, push_lines};
