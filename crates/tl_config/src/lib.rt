@@ -1,0 +1,13 @@
+//! The five files that are made from the executes of a database.
+#![tactic(auto)]
+
+mod file;
+mod format;
+mod hyphen;
+mod lua;
+mod map;
+mod say;
+#[cfg(test)]
+mod tests;
+
+pub use file::{ConfigFile, push_executes, push_lines};
