@@ -1,0 +1,4 @@
+pub mod Trees
+pub mod Acts
+pub mod ReadBack
+pub mod Turns
