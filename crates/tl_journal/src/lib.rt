@@ -1,0 +1,2 @@
+//! A journal: changes of a volume that a stop leaves whole or not at all.
+#![tactic(auto)]
