@@ -2,14 +2,13 @@
 use Rattle.std.proofs.Common.{◌≡◌, ◌≢◌, ◌⊎◌, ℕ, true, false, List, [], ◌∷◌, Some, refl, sym, ◌∙◌, ap, subst, inl, inr}
 use Rattle.std.specs.List.{AllByRecursion}
 use Rattle.std.specs.FinMap as map
-use Rattle.std.proofs.lemmas.Bool.{true≢false, and_parts, not-true}
+use Rattle.std.proofs.lemmas.Bool.{true≢false}
 use Rattle.tl_model.specs.Volume.{Name, Volume, at, same_volume, cases_name, SameBut, at-insert_here, at-insert_apart, at-remove_here, at-remove_apart}
-use Rattle.tl_journal_text.specs.Records.{Record, Remove, Write, Fits, name_of, is_ours, is_target, IsAmong, after, after_one}
+use Rattle.tl_journal_text.specs.Records.{Record, Remove, Write, Fits, name_of, is_ours, IsAmong, after, after_one}
 use Rattle.tl_journal_text.specs.Stand.{tree_of}
+use Rattle.tl_journal_text.proofs.Targets.{target_outside}
 use Rattle.tl_journal_text.proofs.Trees.{at_outside, at_ours, split}
 
-pub target_outside : (name : Name) → is_target name ≡ true → is_ours name ≡ false
-target_outside name target = not-true _ (and_parts _ _ (and_parts _ _ target).1).0
 
 pub fits_outside : (r : Record) → Fits r → is_ours (name_of r) ≡ false
 fits_outside (Remove name) fits = target_outside name fits

@@ -1,3 +1,4 @@
+pub mod Targets
 pub mod Trees
 pub mod Acts
 pub mod ReadBack

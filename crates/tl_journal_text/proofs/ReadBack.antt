@@ -3,11 +3,12 @@ use Rattle.std.proofs.Common.{◌≡◌, ◌<◌, ◌≤◌, ◌+◌, ◌^◌, �
 use Rattle.std.specs.Prelude.{nat_lt}
 use Rattle.std.specs.List.{AllByRecursion}
 use Rattle.std.specs.Int.{w16, w64, to_be_bytes}
-use Rattle.std.proofs.lemmas.Bool.{le-ltb, ltb-true, and_parts}
+use Rattle.std.proofs.lemmas.Bool.{le-ltb}
 use Rattle.std.proofs.lemmas.List.{take_at, drop_at, append-nil}
 use Rattle.std.proofs.lemmas.Nat.{from_be_bytes-to_be_bytes_2, from_be_bytes-to_be_bytes_8}
 use Rattle.tl_model.specs.Volume.{Name}
 use Rattle.tl_journal_text.specs.Records.{Record, Remove, Write, Fits, is_target, text_of, write_head, records_text}
+use Rattle.tl_journal_text.proofs.Targets.{target_short}
 use Rattle.tl_journal_text.specs.Body.{Next, Ends, Faulty, Takes, taken, named, sized, next_of, next, Reading, Whole, Bad, before, reading_by, reading}
 
 taken_at : (from n : ℕ) (xs rest : List ℕ) (go : List ℕ → List ℕ → Next) → length xs ≡ n → taken from n (xs ++ rest) go ≡ go xs rest
@@ -16,9 +17,6 @@ taken_at from n xs rest go is =
     let long : nat_lt (length (xs ++ rest)) n ≡ false = le-ltb (length (xs ++ rest)) n (omega (arith, length-append xs rest)) in
     ap (λ b. cond b (Faulty from) (go (take n (xs ++ rest)) (drop n (xs ++ rest)))) long
     ∙ (λ i. go (take_at xs rest n is i) (drop_at xs rest n is i))
-
-pub target_short : (name : Name) → is_target name ≡ true → length name ≤ 1024
-target_short name target = omega (arith, ltb-true (length name) 1025 (and_parts _ _ target).0)
 
 named_at : (from : ℕ) (name rest : List ℕ) (go : Name → List ℕ → Next) → is_target name ≡ true → named from (to_be_bytes w16 (length name) ++ (name ++ rest)) go ≡ go name rest
 unfolding named

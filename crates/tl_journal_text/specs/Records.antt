@@ -1,10 +1,11 @@
 -- The records of a journal: what they do to a volume, and how they are written.
-use Rattle.std.specs.Prelude.{◌≡◌, ◌⊎◌, ◌<◌, ◌^◌, ℕ, Bool, true, not, ◌&&◌, List, [], ◌∷◌, ◌++◌, length, nat_lt, nat_eq, codes}
+use Rattle.std.specs.Prelude.{◌≡◌, ◌⊎◌, ◌<◌, ◌^◌, ℕ, Bool, true, not, ◌&&◌, List, [], ◌∷◌, ◌++◌, length, nat_eq, bytes_eq, codes}
 use Rattle.std.specs.List.{starts_with}
-use Rattle.std.specs.Cmp.Lexicographic.{pointwise}
+use Rattle.std.specs.Option.{is_none}
 use Rattle.std.specs.Int.{w16, w64, to_be_bytes}
 use Rattle.std.specs.FinMap as map
 use Rattle.tl_model.specs.Volume.{Name, Volume}
+use Rattle.tl_path.specs.Path.{path_fault}
 
 -- a change of one path
 pub data Record : Type 0 where
@@ -22,15 +23,11 @@ is_ours name = starts_with nat_eq name (codes "tlpkg/journal/")
 
 -- a name that is neither the journal's folder nor below it
 abbrev pub is_outside : Name → Bool
-is_outside name = not (is_ours name) && not (pointwise nat_eq name (codes "tlpkg/journal"))
-
--- interim: a path
-abbrev pub is_path : Name → Bool
-is_path name = nat_lt (length name) 1025
+is_outside name = not (is_ours name) && not (bytes_eq name (codes "tlpkg/journal"))
 
 -- a record may change this name: it is a path outside the journal's folder
-abbrev pub is_target : Name → Bool
-is_target name = is_path name && is_outside name
+unfoldable pub is_target : Name → Bool
+is_target name = is_none (path_fault name) && is_outside name
 
 -- a record that can be written: its name is one that it may change, and its bytes are no more than a number of 64 bits says
 abbrev pub Fits : Record → Type 0
@@ -52,13 +49,17 @@ abbrev pub IsAmong : Name → List Record → Type 0
 IsAmong name [] = ⊥
 IsAmong name (r ∷ rs) = (name ≡ name_of r) ⊎ IsAmong name rs
 
+-- a record's kind and path
+abbrev pub head_of : ℕ → Name → List ℕ
+head_of kind name = kind ∷ to_be_bytes w16 (length name) ++ name
+
 -- a write up to its bytes, of which so many come
 abbrev pub write_head : Name → ℕ → List ℕ
-write_head name size = 87 ∷ to_be_bytes w16 (length name) ++ name ++ to_be_bytes w64 size
+write_head name size = head_of 87 name ++ to_be_bytes w64 size
 
 -- how a record is written
 abbrev pub text_of : Record → List ℕ
-text_of (Remove name) = 82 ∷ to_be_bytes w16 (length name) ++ name
+text_of (Remove name) = head_of 82 name
 text_of (Write name bytes) = write_head name (length bytes) ++ bytes
 
 -- how records are written, in order, without the end

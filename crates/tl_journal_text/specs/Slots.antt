@@ -1,6 +1,5 @@
 -- The two slots of a journal, and the names of its files.
-use Rattle.std.specs.Prelude.{ℕ, codes, nat_eq, Bool, Option, Some, None, List, [], ◌∷◌, if◌then◌else◌}
-use Rattle.std.specs.Cmp.Lexicographic.{pointwise}
+use Rattle.std.specs.Prelude.{ℕ, codes, bytes_eq, Option, Some, None, List, [], ◌∷◌, if◌then◌else◌}
 use Rattle.tl_model.specs.Volume.{Name, Volume, at}
 use Rattle.tl_journal_text.specs.declared.slot.Slot.{Slot}
 use Rattle.tl_journal_text.specs.declared.slot.Slot.TheVariants.{One, Two}
@@ -27,7 +26,7 @@ body_of Two = codes "tlpkg/journal/body2"
 -- the slot at which a gate with these bytes is open: it has that slot's byte alone
 abbrev pub opens : Option (List ℕ) → Option Slot
 opens None = None
-opens (Some bytes) = if pointwise nat_eq bytes (1 ∷ []) then Some One else if pointwise nat_eq bytes (2 ∷ []) then Some Two else None
+opens (Some bytes) = if bytes_eq bytes (1 ∷ []) then Some One else if bytes_eq bytes (2 ∷ []) then Some Two else None
 
 -- the slot at which the gate of a volume is open, if it is
 abbrev pub open_slot : Volume → Option Slot
