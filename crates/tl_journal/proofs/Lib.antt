@@ -1,3 +1,4 @@
 mod Live
 mod Gates
 mod Staged
+mod Pieces

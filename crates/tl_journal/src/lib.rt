@@ -1,2 +1,5 @@
 //! A journal: changes of a volume that a stop leaves whole or not at all.
 #![tactic(auto)]
+
+mod body;
+mod names;
