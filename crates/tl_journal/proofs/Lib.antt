@@ -2,3 +2,4 @@ mod Live
 mod Gates
 mod Staged
 mod Pieces
+mod Fronts

@@ -80,3 +80,7 @@ filled p s from count text part is enough =
     ap (λ (l : List ℕ). take count l) (part_front p s from part)
     ∙ take-take count (length (bytes_from p from)) (drop from (body_at p.slot s)) enough
     ∙ ap (λ (l : List ℕ). take count (drop from l)) (sym is)
+
+-- the same body has the same bytes while nothing changes
+pub same_text : (old new : Seen) (p q : Part) → Quiet old new → SameBody p q → body_at q.slot new ≡ body_at p.slot old
+same_text old new p q quiet same = ap (λ (x : Slot). body_at x new) same.slot ∙ same_body_at p.slot old new quiet

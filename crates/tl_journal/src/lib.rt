@@ -2,4 +2,5 @@
 #![tactic(auto)]
 
 mod body;
+mod fields;
 mod names;

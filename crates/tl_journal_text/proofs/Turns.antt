@@ -41,15 +41,15 @@ cond_inv : (b : Bool) (x : Next) (place : ℕ) (r : Record) (rest : List ℕ) �
 cond_inv true x place r rest is = (refl, is)
 cond_inv false x place r rest is = absurd cc
 
-named_is : (from : ℕ) (bytes : List ℕ) (go : Name → List ℕ → Next) → named from bytes go ≡ taken from 2 bytes (λ size more. taken (from + 2) (from_be_bytes w16 size) more (λ name rest. cond (is_target name) (go name rest) (Faulty (from + 2))))
+pub named_is : (from : ℕ) (bytes : List ℕ) (go : Name → List ℕ → Next) → named from bytes go ≡ taken from 2 bytes (λ size more. taken (from + 2) (from_be_bytes w16 size) more (λ name rest. cond (is_target name) (go name rest) (Faulty (from + 2))))
 unfolding named
 named_is from bytes go = refl
 
-sized_is : (from : ℕ) (bytes : List ℕ) (go : List ℕ → List ℕ → Next) → sized from bytes go ≡ taken from 8 bytes (λ size more. taken (from + 8) (from_be_bytes w64 size) more go)
+pub sized_is : (from : ℕ) (bytes : List ℕ) (go : List ℕ → List ℕ → Next) → sized from bytes go ≡ taken from 8 bytes (λ size more. taken (from + 8) (from_be_bytes w64 size) more go)
 unfolding sized
 sized_is from bytes go = refl
 
-next_is : (from : ℕ) (bytes : List ℕ) → next from bytes ≡ taken from 1 bytes (λ kind rest. next_of from (slice_index kind 0) rest)
+pub next_is : (from : ℕ) (bytes : List ℕ) → next from bytes ≡ taken from 1 bytes (λ kind rest. next_of from (slice_index kind 0) rest)
 unfolding next
 next_is from bytes = refl
 
