@@ -3,3 +3,4 @@ mod Gates
 mod Staged
 mod Pieces
 mod Fronts
+mod Doing

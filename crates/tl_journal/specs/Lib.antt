@@ -1,3 +1,4 @@
+pub mod Acting
 pub mod Items
 pub mod Reading
 pub mod States

@@ -4,3 +4,4 @@
 mod body;
 mod fields;
 mod names;
+mod redo;

@@ -1,5 +1,5 @@
 -- Going through a body from record to record.
-use Rattle.std.proofs.Common.{◌≡◌, ◌<◌, ◌≤◌, ◌+◌, ◌^◌, ℕ, zero, suc, Bool, true, false, cond, List, [], ◌∷◌, ◌++◌, length, take, drop, refl, sym, ◌∙◌, ap, subst, inl, inr, arith, append_assoc, length-append, length-drop, eqb}
+use Rattle.std.proofs.Common.{◌≡◌, ◌<◌, ◌≤◌, ◌+◌, ◌^◌, ℕ, zero, suc, Bool, true, false, cond, List, [], ◌∷◌, ◌++◌, length, take, drop, Some, refl, sym, ◌∙◌, ap, subst, inl, inr, arith, append_assoc, length-append, length-drop, eqb}
 use Rattle.std.specs.Prelude.{nat_lt, slice_index}
 use Rattle.std.specs.List.{AllByRecursion}
 use Rattle.std.specs.Int.{w16, w64, from_be_bytes, to_be_bytes}
@@ -7,7 +7,7 @@ use Rattle.std.proofs.lemmas.Bool.{ltb-false}
 use Rattle.std.proofs.lemmas.List.{length-take, append-nil}
 use Rattle.tl_model.specs.Volume.{Name}
 use Rattle.tl_journal_text.specs.Records.{Record, Remove, Write, Fits, is_target, text_of, write_head}
-use Rattle.tl_journal_text.specs.Body.{Next, Ends, Faulty, Takes, taken, named, sized, next_of, next, Reading, Whole, Bad, before, reading_by, reading}
+use Rattle.tl_journal_text.specs.Body.{Next, Ends, Faulty, Takes, Stops, taken, named, sized, next_of, next, Reading, Whole, Bad, before, reading_by, reading, records_in}
 
 by_is : (n from : ℕ) (bytes : List ℕ) → reading_by (suc n) from bytes ≡ elim (next from bytes) [ Ends ↦ Whole [] | Faulty place ↦ Bad place | Takes r rest ↦ before r (reading_by n (from + length (text_of r)) rest) ]
 unfolding reading_by
@@ -133,12 +133,6 @@ one_read (suc n) from bytes r rest rs is reads =
     let m = mapped (reading_by n (from + length (text_of r)) rest) r rs (sym (by_takes n from bytes r rest is) ∙ reads) in
     record { turns = n; others = m.0; first = m.1; reads = m.2 }
 
--- no record stands there
-abbrev pub Stops : Next → Type 0
-Stops Ends = Unit {0}
-Stops (Faulty place) = Unit {0}
-Stops (Takes r others) = ⊥
-
 pub none_read : (n from : ℕ) (bytes : List ℕ) (rs : List Record) → Stops (next from bytes) → reading_by n from bytes ≡ Whole rs → rs ≡ []
 none_read zero from bytes rs stops reads = let none : Bad from ≡ Whole rs = sym (by_zero from bytes) ∙ reads in absurd cc
 none_read (suc n) from bytes rs stops reads = by (next from bytes) refl stops
@@ -163,6 +157,11 @@ all_by (suc n) from bytes rs small reads = by (λ place rest others. all_by n pl
 
 pub all_fit : (bytes : List ℕ) (rs : List Record) → length bytes < 2 ^ 64 → reading bytes ≡ Whole rs → AllByRecursion Fits rs
 all_fit bytes rs small reads = all_by (suc (length bytes)) 0 bytes rs small reads
+
+-- the reading of a text that has records
+pub records_whole : (o : Reading) (rs : List Record) → records_in o ≡ Some rs → o ≡ Whole rs
+records_whole (Bad place) rs is = absurd cc
+records_whole (Whole l) rs is = cc
 
 -- ---- as far as a text was read
 

@@ -10,6 +10,12 @@ pub data Next : Type 0 where
   Faulty : (place : ℕ) → Next
   Takes : (r : Record) (rest : List ℕ) → Next
 
+-- no record stands there
+abbrev pub Stops : Next → Type 0
+Stops Ends = Unit {0}
+Stops (Faulty place) = Unit {0}
+Stops (Takes r rest) = ⊥
+
 -- a field of so many bytes at a place, and the rest
 unfoldable pub taken : ℕ → ℕ → List ℕ → (List ℕ → List ℕ → Next) → Next
 taken from n text go = if nat_lt (length text) n then Faulty from else go (take n text) (drop n text)

@@ -2,9 +2,9 @@
 #![tactic(auto)]
 
 mod head;
+mod names;
 mod slot;
-mod target;
 
 pub use head::Head;
+pub use names::{is_outside, is_target, target};
 pub use slot::Slot;
-pub use target::{is_outside, is_target};

@@ -1,4 +1,4 @@
-ghost use Rattle.std.specs.Prelude.{◌≡◌};
+ghost use Rattle.std.specs.Prelude.{◌≡◌, true};
 ghost use Rattle.tl_journal_text.specs.Records.{is_outside, is_target};
 
 use tl_path::PathRef;
@@ -18,5 +18,16 @@ pub fn is_target(name: &[u8]) -> bool
     match PathRef::check(name) {
         Ok(_) => is_outside(name),
         Err(_) => false,
+    }
+}
+
+/// The path that a record changes, whose name is known to be one that it may change.
+pub fn target(name: &[u8]) -> PathRef<'_>
+    requires { is_target name.now ≡ true }
+    ensures { result ≡ name.now }
+{
+    match PathRef::check(name) {
+        Ok(path) => path,
+        Err(_) => unreachable!(),
     }
 }
