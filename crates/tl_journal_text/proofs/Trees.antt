@@ -1,9 +1,10 @@
 -- Volumes whose trees are one, and what they stand for.
-use Rattle.std.proofs.Common.{◌≡◌, ◌≢◌, ◌⊎◌, Bool, true, false, cond, not, List, ℕ, Option, Some, None, refl, sym, ◌∙◌, ap, inl, inr}
-use Rattle.std.specs.Option.{option_map}
+use Rattle.std.proofs.Common.{◌≡◌, ◌≢◌, ◌⊎◌, Bool, true, false, cond, not, List, [], ◌∷◌, take, eqb, ℕ, Option, Some, None, refl, sym, ◌∙◌, ap, inl, inr}
+use Rattle.std.specs.Option.{option_map, unwrap_or}
+use Rattle.std.specs.Prelude.{bytes_eq}
 use Rattle.std.specs.FinMap as map
 use Rattle.std.specs.FinMap.{slice_cmp-IsAntisymmetric, nat_cmp-IsAntisymmetric}
-use Rattle.std.proofs.lemmas.Bool.{true≢false}
+use Rattle.std.proofs.lemmas.Bool.{true≢false, and_right}
 use Rattle.tl_model.specs.Volume.{Name, Volume, at, same_volume, same_name, same_name-refl}
 use Rattle.tl_journal_text.specs.declared.slot.Slot.{Slot}
 use Rattle.tl_journal_text.specs.declared.slot.Slot.TheVariants.{One, Two}
@@ -84,3 +85,17 @@ fault_shut v shut = ap (λ (o : Option Slot). elim o as (λ _. Option ℕ) [ Non
 -- a body that isn't in the grammar behind an open gate
 pub fault_open : (v : Volume) (slot : Slot) (place : ℕ) → open_slot v ≡ Some slot → reading (bytes_at v (body_of slot)) ≡ Bad place → (stand v ≡ None) × (journal_fault v ≡ Some place)
 fault_open v slot place opened bad = (stand_none v slot opened (ap records_in bad), fault_by v slot opened ∙ ap fault_in bad)
+
+-- the first two bytes of a gate say as much as all
+pub opens_two : (o : Option (List ℕ)) → opens (Some (take 2 (unwrap_or o []))) ≡ opens o
+opens_two None = refl
+opens_two (Some []) = refl
+opens_two (Some (x ∷ [])) = refl
+opens_two (Some (x ∷ y ∷ xs)) = same x
+  where
+    same : (x : ℕ) → opens (Some (x ∷ y ∷ [])) ≡ opens (Some (x ∷ y ∷ xs))
+    same x = ap (λ b. cond b (Some One) (cond (bytes_eq (x ∷ y ∷ []) (2 ∷ [])) (Some Two) None)) (longer x 1 y [] ∙ sym (longer x 1 y xs))
+        ∙ ap (λ b. cond (bytes_eq (x ∷ y ∷ xs) (1 ∷ [])) (Some One) (cond b (Some Two) None)) (longer x 2 y [] ∙ sym (longer x 2 y xs))
+      where
+        longer : (x a y : ℕ) (xs : List ℕ) → bytes_eq (x ∷ y ∷ xs) (a ∷ []) ≡ false
+        longer x a y xs = and_right (eqb x a) false refl
