@@ -1,15 +1,19 @@
 -- The records that have been staged.
-use Rattle.std.proofs.Common.{◌≡◌, ◌<◌, ◌≤◌, ◌+◌, ◌-◌, ◌^◌, List, [], ◌∷◌, ◌++◌, ℕ, true, length, Option, Some, sym, ◌∙◌, ap, subst, arith, append_assoc, length-append}
+use Rattle.std.proofs.Common.{◌≡◌, ◌<◌, ◌≤◌, ◌+◌, ◌-◌, ◌^◌, List, [], ◌∷◌, ◌++◌, ℕ, Bool, true, length, Option, Some, IsSome, refl, sym, ◌∙◌, ap, subst, arith, append_assoc, length-append}
 use Rattle.std.specs.Option.{unwrap_or}
 use Rattle.std.specs.List.{AllByRecursion}
 use Rattle.std.proofs.lemmas.List.{append-nil}
-use Rattle.tl_model.specs.Volume.{Name, Volume, at}
-use Rattle.tl_model.specs.Seen.{Moment, Seen}
+use Rattle.std.specs.FinMap as map
+use Rattle.tl_model.specs.Volume.{Name, Volume, at, at-insert_here}
+use Rattle.tl_model.specs.Seen.{Moment, Seen, Changes}
 use Rattle.tl_journal_text.specs.Records.{Record, Write, Fits, is_target, records_text, text_of, write_head}
 use Rattle.tl_journal_text.specs.Body.{records_of, records_in}
 use Rattle.tl_journal_text.specs.Stand.{bytes_at}
 use Rattle.tl_journal_text.proofs.ReadBack.{written, all_push, text_push}
-use Rattle.tl_journal.specs.States.{IsClean, IsStaging, IsWriting, Writes, spare_body, staged, coming}
+use Rattle.tl_journal.specs.States.{IsClean, IsStaging, IsWriting, Writes, Grows, KeepsTree, spare_body, staged, coming}
+use Rattle.tl_journal_text.specs.declared.slot.Slot.{Slot}
+use Rattle.tl_journal_text.specs.Slots.{body_of, open_slot, spare}
+use Rattle.tl_journal.proofs.Live.{keeps_open, tree_change, tree_start, free_spare}
 
 whole : (rs : List Record) → AllByRecursion Fits rs → records_of (records_text rs ++ 69 ∷ []) ≡ Some rs
 whole rs fits = ap records_in (written rs fits)
@@ -34,10 +38,6 @@ ended old body staging text =
     ap (λ (o : Option (List ℕ)). records_of (unwrap_or o [])) text
     ∙ ap (λ (o : Option (List ℕ)). records_of (unwrap_or o [] ++ 69 ∷ [])) staging.text
     ∙ whole (staged old) staging.fits
-
--- the spare body has these bytes more
-abbrev pub Grows : List ℕ → Seen → Seen → Type 0
-Grows bytes old new = at new.present.held (spare_body new.present.held) ≡ Some (bytes_at old.present.held (spare_body old.present.held) ++ bytes)
 
 -- a record more
 more_text : (old new : Seen) (r : Record) → IsStaging old → Grows (text_of r) old new → at new.present.held (spare_body new.present.held) ≡ Some (records_text (staged old ++ r ∷ []))
@@ -118,3 +118,40 @@ writing_end s writing =
     is_staging s (writing.before ++ Write writing.path (writing.come ++ []) ∷ []) writing.clean
     (writing.text ∙ ap (λ (o : Option (List ℕ)). Some (unwrap_or o [])) (sym writing.text) ∙ ap Some (sym (append-nil (bytes_at s.present.held (spare_body s.present.held)))) ∙ ap Some (last_text s 0 writing [] (omega arith)))
     (last_fits s 0 writing [] (omega arith))
+
+-- ---- the spare body grows
+
+pub spare_is : (s : Seen) (slot : Slot) → spare (open_slot s.present.held) ≡ slot → spare_body s.present.held ≡ body_of slot
+spare_is s slot is = ap body_of is
+
+pub spare_stays : (old new : Seen) → KeepsTree old new → spare_body new.present.held ≡ spare_body old.present.held
+spare_stays old new keeps = ap (λ (o : Option Slot). body_of (spare o)) (keeps_open old new keeps)
+
+-- the body of the spare slot has bytes more
+pub grows_by : (old new : Seen) (slot : Slot) (bytes : List ℕ) → spare (open_slot old.present.held) ≡ slot → KeepsTree old new → at new.present.held (body_of slot) ≡ Some (bytes_at old.present.held (body_of slot) ++ bytes) → Grows bytes old new
+grows_by old new slot bytes is keeps text =
+    ap (λ (n : Name). at new.present.held n) (spare_stays old new keeps ∙ spare_is old slot is)
+    ∙ text ∙ ap (λ (n : Name). Some (bytes_at old.present.held n ++ bytes)) (sym (spare_is old slot is))
+
+pub grows_join : (old mid new : Seen) (a b : List ℕ) → Grows a old mid → Grows b mid new → Grows (a ++ b) old new
+grows_join old mid new a b far near =
+    near ∙ ap (λ (o : Option (List ℕ)). Some (unwrap_or o [] ++ b)) far ∙ ap Some (append_assoc (bytes_at old.present.held (spare_body old.present.held)) a b)
+
+-- what has grown is there
+pub grown_there : (old new : Seen) (slot : Slot) (bytes : List ℕ) → spare (open_slot new.present.held) ≡ slot → Grows bytes old new → IsSome (at new.present.held (body_of slot))
+grown_there old new slot bytes is grows = subst (λ (o : Option (List ℕ)). IsSome o) (sym (ap (λ (n : Name). at new.present.held n) (sym (spare_is new slot is)) ∙ grows)) refl
+
+pub spare_again : (old new : Seen) (slot : Slot) → KeepsTree old new → spare (open_slot old.present.held) ≡ slot → spare (open_slot new.present.held) ≡ slot
+spare_again old new slot keeps is = ap spare (keeps_open old new keeps) ∙ is
+
+-- the spare body was changed
+pub spare_change : (old new : Seen) (ok : Bool) (slot : Slot) → IsClean old.present → spare (open_slot old.present.held) ≡ slot → Changes ok (body_of slot) old new → KeepsTree old new
+spare_change old new ok slot clean is change = tree_change old old new ok slot (tree_start old clean.live) change (λ q fixed e. free_spare old.present.held q fixed (e ∙ sym (spare_is old slot is)))
+
+-- a file that was made
+pub made_empty : (held new : Volume) (n name : Name) → n ≡ name → new ≡ map.insert held n [] → at new name ≡ Some []
+made_empty held new n name is made = ap (λ (v : Volume). at v name) made ∙ ap (λ (m : Name). at (map.insert held m []) name) is ∙ at-insert_here held name []
+
+-- a file to which bytes were added
+pub appended : (held new : Volume) (n name : Name) (bytes : List ℕ) → n ≡ name → new ≡ map.insert held n (bytes_at held n ++ bytes) → at new name ≡ Some (bytes_at held name ++ bytes)
+appended held new n name bytes is added = ap (λ (v : Volume). at v name) added ∙ ap (λ (m : Name). at (map.insert held m (bytes_at held m ++ bytes)) name) is ∙ at-insert_here held name _

@@ -51,6 +51,10 @@ pub record IsStaging (s : Seen) : Type 0 where
   pub text : at s.present.held (spare_body s.present.held) ≡ Some (records_text (staged s))
   pub fits : AllByRecursion Fits (staged s)
 
+-- the spare body has these bytes more
+abbrev pub Grows : List ℕ → Seen → Seen → Type 0
+Grows bytes old new = at new.present.held (spare_body new.present.held) ≡ Some (bytes_at old.present.held (spare_body old.present.held) ++ bytes)
+
 -- a host on which a write is being staged, of which so many bytes are still to come
 pub record Writes : Type 0 where
   pub seen : Seen

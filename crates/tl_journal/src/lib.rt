@@ -3,5 +3,8 @@
 
 mod body;
 mod fields;
+mod gate;
 mod names;
 mod redo;
+mod resume;
+mod staging;
