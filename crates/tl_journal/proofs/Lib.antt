@@ -4,3 +4,4 @@ mod Staged
 mod Pieces
 mod Fronts
 mod Doing
+mod Commits

@@ -155,3 +155,7 @@ made_empty held new n name is made = ap (λ (v : Volume). at v name) made ∙ ap
 -- a file to which bytes were added
 pub appended : (held new : Volume) (n name : Name) (bytes : List ℕ) → n ≡ name → new ≡ map.insert held n (bytes_at held n ++ bytes) → at new name ≡ Some (bytes_at held name ++ bytes)
 appended held new n name bytes is added = ap (λ (v : Volume). at v name) added ∙ ap (λ (m : Name). at (map.insert held m (bytes_at held m ++ bytes)) name) is ∙ at-insert_here held name _
+
+-- the body that is being written is there
+pub staging_there : (s : Seen) (slot : Slot) → IsStaging s → spare (open_slot s.present.held) ≡ slot → IsSome (at s.present.held (body_of slot))
+staging_there s slot staging is = subst (λ (o : Option (List ℕ)). IsSome o) (sym (ap (λ (n : Name). at s.present.held n) (sym (spare_is s slot is)) ∙ staging.text)) refl
