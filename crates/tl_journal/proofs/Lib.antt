@@ -5,3 +5,4 @@ mod Pieces
 mod Fronts
 mod Doing
 mod Commits
+mod Resumed

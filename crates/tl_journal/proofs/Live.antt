@@ -135,6 +135,21 @@ keeps_live base s far = live_moves base.present s.present far.live far.apart far
 pub keeps_stand : (base s : Seen) → Keeps base s → stand s.present.held ≡ stand base.present.held
 keeps_stand base s far = same_stand s.present.held base.present.held far.apart far.live.whole
 
+-- one run after another
+pub keeps_join : (old mid new : Seen) → Keeps old mid → Keeps mid new → Keeps old new
+keeps_join old mid new far near =
+    let opened = same_open mid.present.held old.present.held far.apart in
+    let pends = same_pending mid.present.held old.present.held far.apart in
+    let moved : (name : Name) → Fixed old name → Fixed mid name = λ name fixed. subst (λ (o : Option Slot). IsFixed o (pending mid.present.held) name) (sym opened) (subst (λ (l : List Record). IsFixed (open_slot old.present.held) l name) (sym pends) fixed) in
+    record {
+      live = far.live;
+      apart = λ name fixed. near.apart name (moved name fixed) ∙ far.apart name fixed;
+      others = λ name fixed. near.others name (moved name fixed);
+      said = near.said ∙ far.said;
+      syncs = near.syncs ∙ far.syncs;
+      pictures = since_join old mid new _ far.pictures (since_weaker mid new _ _ (λ image said here. (here.0 ∙ keeps_stand old mid far, here.1 ∙ far.said)) near.pictures);
+    }
+
 -- ---- with its tree
 
 pub tree_start : (s : Seen) → IsLive s.present → KeepsTree s s
@@ -158,21 +173,10 @@ keeps_open base s far = same_open s.present.held base.present.held far.keeps.apa
 
 -- one run after another
 pub tree_join : (old mid new : Seen) → KeepsTree old mid → KeepsTree mid new → KeepsTree old new
-tree_join old mid new far near =
-    let opened = keeps_open old mid far in
-    let pends = same_pending mid.present.held old.present.held far.keeps.apart in
-    let moved : (name : Name) → Fixed old name → Fixed mid name = λ name fixed. subst (λ (o : Option Slot). IsFixed o (pending mid.present.held) name) (sym opened) (subst (λ (l : List Record). IsFixed (open_slot old.present.held) l name) (sym pends) fixed) in
-    record {
-      keeps = record {
-        live = far.keeps.live;
-        apart = λ name fixed. near.keeps.apart name (moved name fixed) ∙ far.keeps.apart name fixed;
-        others = λ name fixed. near.keeps.others name (moved name fixed);
-        said = near.keeps.said ∙ far.keeps.said;
-        syncs = near.keeps.syncs ∙ far.keeps.syncs;
-        pictures = since_join old mid new _ far.keeps.pictures (since_weaker mid new _ _ (λ image said here. (here.0 ∙ keeps_stand old mid far.keeps, here.1 ∙ far.keeps.said)) near.keeps.pictures);
-      };
-      outside = λ name out. near.outside name out ∙ far.outside name out;
-    }
+tree_join old mid new far near = record {
+  keeps = keeps_join old mid new far.keeps near.keeps;
+  outside = λ name out. near.outside name out ∙ far.outside name out;
+}
 
 -- ---- names that needn't stay
 

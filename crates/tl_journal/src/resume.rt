@@ -1,5 +1,5 @@
 // Going on after a stop.
-ghost use Rattle.std.specs.Prelude.{◌≡◌, ◌≤◌, ◌+◌, Some, None, IfOk, IfErr, OnOk, MatchOption, List};
+ghost use Rattle.std.specs.Prelude.{◌≡◌, ◌<◌, ◌≤◌, ◌+◌, ◌^◌, Some, None, IfOk, IfErr, OnOk, MatchOption, List};
 ghost use Rattle.tl_model.specs.Causes.{HasCause, Rose};
 ghost use Rattle.tl_model.specs.Seen.{Told, Quiet, Since};
 ghost use Rattle.tl_journal_text.specs.Slots.{open_slot};
@@ -52,6 +52,7 @@ fn body_of<H: Host>(host: &mut H, slot: Slot) -> Result<Body, Failed>
     ensures cause { HasCause (H.seen host.old).faults (H.seen host.new).faults result }
     ensures quiet { Told H.tells (Quiet (H.seen host.old) (H.seen host.new)) }
     ensures slot { IfOk result (λ body. body.slot ≡ slot) }
+    ensures fits { IfOk result (λ body. body.size < 2 ^ 64) }
     ensures part { Told H.tells (IfOk result (λ body. IsPartOf body (H.seen host.new))) }
 {
     let size = host.size(names::body(slot))?.unwrap_or(0);
@@ -128,8 +129,11 @@ pub fn resume<H: Host>(host: &mut H) -> Result<Option<Slot>, RecoverError>
 {
     host.sync()?;
     let opened = opened(host)?;
-    if let Some(slot) = opened {
-        finish(host, slot)?;
+    match opened {
+        Some(slot) => {
+            finish(host, slot)?;
+            Ok(Some(slot))
+        }
+        None => Ok(None),
     }
-    Ok(opened)
 }
