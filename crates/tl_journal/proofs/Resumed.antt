@@ -1,6 +1,7 @@
 -- Going on after a stop.
 use Rattle.std.proofs.Common.{◌≡◌, ◌<◌, ◌^◌, ◌⊎◌, ℕ, List, [], length, take, drop, Option, Some, None, refl, sym, ◌∙◌, ap, subst, inl, inr}
 use Rattle.std.specs.Option.{unwrap_or, option_map}
+use Rattle.std.specs.Prelude.{MatchOption}
 use Rattle.std.specs.List.{AllByRecursion}
 use Rattle.std.specs.FinSet as set
 use Rattle.std.proofs.lemmas.List.{append-nil}
@@ -87,3 +88,7 @@ resumed_start s = since_start s _ (λ image said picture. inr picture)
 
 pub resumed_more : (old mid new : Seen) → Since old mid (IsResumed old) → stand mid.present.held ≡ stand old.present.held → mid.present.said ≡ old.present.said → Stays mid new → Since old new (IsResumed old)
 resumed_more old mid new far stands said near = since_join old mid new _ far (since_weaker mid new _ _ (λ image s here. inl (here.0 ∙ stands, here.1 ∙ said)) near)
+
+pub none_whole : {T : Type 0} (o : Option T) (P : Type 0) (Q : T → Type 0) → ((x : T) → o ≡ Some x → ⊥) → MatchOption o P Q → P
+none_whole None P Q not whole = whole
+none_whole (Some x) P Q not whole = absurd (not x refl)
