@@ -159,3 +159,19 @@ appended held new n name bytes is added = ap (λ (v : Volume). at v name) added 
 -- the body that is being written is there
 pub staging_there : (s : Seen) (slot : Slot) → IsStaging s → spare (open_slot s.present.held) ≡ slot → IsSome (at s.present.held (body_of slot))
 staging_there s slot staging is = subst (λ (o : Option (List ℕ)). IsSome o) (sym (ap (λ (n : Name). at s.present.held n) (sym (spare_is s slot is)) ∙ staging.text)) refl
+
+-- the records that will have been staged, as a write begins
+pub begin_coming : (old new : Seen) (path : Name) (size : ℕ) → IsStaging old → IsClean new.present → is_target path ≡ true → size < 2 ^ 64 → Grows (write_head path size) old new
+    → (bytes : List ℕ) → length bytes ≡ size → coming (record { seen = new; left = size }) bytes ≡ staged old ++ Write path bytes ∷ []
+unfolding writing_start
+begin_coming old new path size staging clean target small text bytes is = coming_is new size (writing_start old new path size staging clean target small text) bytes is
+
+-- as bytes come
+pub piece_coming : (old new : Seen) (a b : ℕ) (bytes : List ℕ) → Grows bytes old new → (rest : List ℕ) → coming (record { seen = new; left = a }) rest ≡ coming (record { seen = old; left = b }) (bytes ++ rest)
+piece_coming old new a b bytes grows rest =
+    ap (λ (o : Option (List ℕ)). unwrap_or (records_of ((unwrap_or o [] ++ rest) ++ 69 ∷ [])) []) grows
+    ∙ ap (λ (l : List ℕ). unwrap_or (records_of (l ++ 69 ∷ [])) []) (append_assoc (bytes_at old.present.held (spare_body old.present.held)) bytes rest)
+
+-- and as it ends
+pub end_coming : (s : Seen) (a : ℕ) → staged s ≡ coming (record { seen = s; left = a }) []
+end_coming s a = ap (λ (l : List ℕ). unwrap_or (records_of (l ++ 69 ∷ [])) []) (sym (append-nil (bytes_at s.present.held (spare_body s.present.held))))
