@@ -175,3 +175,7 @@ piece_coming old new a b bytes grows rest =
 -- and as it ends
 pub end_coming : (s : Seen) (a : ℕ) → staged s ≡ coming (record { seen = s; left = a }) []
 end_coming s a = ap (λ (l : List ℕ). unwrap_or (records_of (l ++ 69 ∷ [])) []) (sym (append-nil (bytes_at s.present.held (spare_body s.present.held))))
+
+-- the spare body was made empty
+pub started : (old new : Seen) (slot : Slot) → spare (open_slot old.present.held) ≡ slot → KeepsTree old new → at new.present.held (body_of slot) ≡ Some [] → at new.present.held (spare_body new.present.held) ≡ Some []
+started old new slot is keeps text = ap (λ (n : Name). at new.present.held n) (spare_stays old new keeps ∙ spare_is old slot is) ∙ text
