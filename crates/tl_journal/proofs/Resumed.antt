@@ -1,5 +1,5 @@
 -- Going on after a stop.
-use Rattle.std.proofs.Common.{◌≡◌, ◌<◌, ◌^◌, ◌⊎◌, ℕ, List, [], length, take, drop, Option, Some, None, refl, sym, ◌∙◌, ap, subst, inl, inr}
+use Rattle.std.proofs.Common.{◌≡◌, ◌<◌, ◌^◌, ◌⊎◌, ℕ, Bool, false, List, [], length, take, drop, Option, Some, None, refl, sym, ◌∙◌, ap, subst, inl, inr}
 use Rattle.std.specs.Option.{unwrap_or, option_map}
 use Rattle.std.specs.Prelude.{MatchOption}
 use Rattle.std.specs.List.{AllByRecursion}
@@ -12,7 +12,7 @@ use Rattle.tl_journal_text.specs.declared.slot.Slot.{Slot}
 use Rattle.tl_journal_text.specs.Slots.{body_of, open_slot, opens, gate}
 use Rattle.tl_journal_text.specs.Records.{Record, Fits}
 use Rattle.tl_journal_text.specs.Body.{reading, Whole, Bad, records_of, records_in}
-use Rattle.tl_journal_text.specs.Stand.{bytes_at, stand, journal_fault, Stays, IsResumed}
+use Rattle.tl_journal_text.specs.Stand.{bytes_at, stand, journal_fault, Stays, IsResumed, SaysFront}
 use Rattle.tl_journal_text.proofs.Turns.{all_fit}
 use Rattle.tl_journal.specs.States.{IsLive, IsSettled, Keeps, pending}
 use Rattle.tl_journal.specs.Reading.{Part, IsPartOf, body_at}
@@ -92,3 +92,19 @@ resumed_more old mid new far stands said near = since_join old mid new _ far (si
 pub none_whole : {T : Type 0} (o : Option T) (P : Type 0) (Q : T → Type 0) → ((x : T) → o ≡ Some x → ⊥) → MatchOption o P Q → P
 none_whole None P Q not whole = whole
 none_whole (Some x) P Q not whole = absurd (not x refl)
+
+-- ---- bytes are said
+
+pub says_front : (old new : Seen) (ok : Bool) (bytes : List ℕ) → Stays old old → Says ok bytes old new → Since old new (SaysFront bytes old)
+says_front old new ok bytes start says =
+    after_say old old new (SaysFront bytes old) ok bytes
+    (since_start old _ (λ image said picture. (still [] image picture.others, (0, nothing_more said old.present.said picture.count picture.words ∙ sym (append-nil old.present.said)))))
+    says
+    (λ image said picture. (still bytes image picture.others, (picture.count, picture.words)))
+  where
+    still : (saying : List ℕ) (image : Volume) → ((name : Name) → set.contains old.present.touched name ≡ false → at image name ≡ at old.present.held name) → stand image ≡ stand old.present.held
+    still saying image others = (start.present image old.present.said (record { others = others; count = 0; words = sym (append-nil old.present.said) })).0
+
+-- what stands is as before but for the bytes said
+pub says_moment : (ok : Bool) (bytes : List ℕ) (old new : Seen) → Says ok bytes old new → new.present ≡ record { held = old.present.held; touched = old.present.touched; said = new.present.said }
+says_moment ok bytes old new says = λ i. record { held = says.held i; touched = says.touched i; said = new.present.said }

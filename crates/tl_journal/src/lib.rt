@@ -6,6 +6,7 @@
 #![tactic(auto)]
 
 mod body;
+mod calls;
 mod fields;
 mod gate;
 mod lost;

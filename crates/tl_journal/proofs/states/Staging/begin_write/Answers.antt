@@ -9,7 +9,7 @@ use Rattle.tl_journal_text.proofs.Targets.{is_target_of}
 use Rattle.tl_journal.specs.States.{Grows, staged, coming}
 use Rattle.tl_journal.proofs.Live.{keeps_start, keeps_stand, keeps_clean, keeps_open, keeps_tree, same_open}
 use Rattle.tl_journal.proofs.Staged.{started, staged_is, is_staging, more_is, more_staging, writing_start, writing_more, writing_end, begin_coming, piece_coming, end_coming}
-use Rattle.tl_journal.proofs.writing.Staging.begin_write.Goals as goal
+use Rattle.tl_journal.proofs.states.Staging.begin_write.Goals as goal
 
 pub invariant_of-result : goal.invariant_of-result
 invariant_of-result g c t =
