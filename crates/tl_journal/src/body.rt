@@ -37,7 +37,13 @@ impl Body {
     pub fn new(slot: Slot, size: u64) -> Body
         ensures { result ≡ record { slot = slot; size = size; start = 0; bytes = [] } }
     {
-        Body { slot, size, start: 0, count: 0, bytes: [0; PIECE] }
+        Body {
+            slot,
+            size,
+            start: 0,
+            count: 0,
+            bytes: [0; PIECE],
+        }
     }
 
     /// The length of the body.
@@ -93,7 +99,12 @@ impl Body {
     }
 
     /// Fills the buffer from a place of the body on. Whether the body has so many bytes.
-    pub fn fill<H: Host>(&mut self, host: &mut H, from: u64, into: &mut [u8]) -> Result<bool, Failed>
+    pub fn fill<H: Host>(
+        &mut self,
+        host: &mut H,
+        from: u64,
+        into: &mut [u8],
+    ) -> Result<bool, Failed>
         requires most { length into.old ≤ 65536 }
         requires part { Told H.tells (IsPartOf self.old (H.seen host.old)) }
         ensures cause { HasCause (H.seen host.old).faults (H.seen host.new).faults result }

@@ -144,7 +144,10 @@ pub fn next<H: Host>(
     }
     if kind[0] == b'R' {
         return match name_at(body, host, from + 1, name)? {
-            Field::Whole(count) => Ok(Item::Remove { name: count as usize, rest: from + 3 + count }),
+            Field::Whole(count) => Ok(Item::Remove {
+                name: count as usize,
+                rest: from + 3 + count,
+            }),
             Field::Faulty(place) => Ok(Item::Faulty(place)),
         };
     }
@@ -158,12 +161,7 @@ pub fn next<H: Host>(
 }
 
 // The record that writes a name of so many bytes, by what stands after the name.
-fn written<H: Host>(
-    body: &mut Body,
-    host: &mut H,
-    from: u64,
-    name: usize,
-) -> Result<Item, Failed>
+fn written<H: Host>(body: &mut Body, host: &mut H, from: u64, name: usize) -> Result<Item, Failed>
     requires within { from ≤ body.old.size }
     requires part { Told H.tells (IsPartOf body.old (H.seen host.old)) }
     ensures cause { HasCause (H.seen host.old).faults (H.seen host.new).faults result }
@@ -175,7 +173,11 @@ fn written<H: Host>(
     ensures item { Told H.tells (IfOk result (λ item. (buffer : Name) → IsWritten (body_at body.old.slot (H.seen host.old)) from (take name buffer) buffer item)) }
 {
     match size_at(body, host, from)? {
-        Field::Whole(count) => Ok(Item::Write { name, from: from + 8, size: count }),
+        Field::Whole(count) => Ok(Item::Write {
+            name,
+            from: from + 8,
+            size: count,
+        }),
         Field::Faulty(place) => Ok(Item::Faulty(place)),
     }
 }

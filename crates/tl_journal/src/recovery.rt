@@ -47,7 +47,10 @@ impl Journal {
     {
         let mut host = host;
         match resume(&mut host) {
-            Ok(opened) => Ok(Recovered { redone: opened.is_some(), journal: Clean { host, opened } }),
+            Ok(opened) => Ok(Recovered {
+                redone: opened.is_some(),
+                journal: Clean { host, opened },
+            }),
             Err(fault) => Err(Lost { host, fault }),
         }
     }

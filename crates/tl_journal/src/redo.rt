@@ -126,7 +126,11 @@ fn step<H: Host>(
             host.remove(target(&name[..count]))?;
             Ok(Some(rest))
         }
-        Item::Write { name: count, from: start, size } => {
+        Item::Write {
+            name: count,
+            from: start,
+            size,
+        } => {
             write(body, host, target(&name[..count]), start, size)?;
             Ok(Some(start + size))
         }

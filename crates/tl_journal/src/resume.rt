@@ -77,7 +77,11 @@ fn fault<H: Host>(body: &mut Body, host: &mut H) -> Result<Option<u64>, Failed>
             Item::End => return Ok(None),
             Item::Faulty(place) => return Ok(Some(place)),
             Item::Remove { name: _, rest } => from = rest,
-            Item::Write { name: _, from: start, size } => from = start + size,
+            Item::Write {
+                name: _,
+                from: start,
+                size,
+            } => from = start + size,
         }
     }
 }

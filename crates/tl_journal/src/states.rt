@@ -138,7 +138,10 @@ impl<H: Host> Clean<H> {
         let opened = self.opened;
         match staging::start(&mut host, Slot::spare(opened)) {
             Ok(()) => Ok(Staging { host, opened }),
-            Err(_) => Err(Lost { host, fault: HostFault }),
+            Err(_) => Err(Lost {
+                host,
+                fault: HostFault,
+            }),
         }
     }
 
@@ -160,7 +163,10 @@ impl<H: Host> Clean<H> {
             None => Ok(Clean { host, opened: None }),
             Some(slot) => match gate::close(&mut host, slot) {
                 Ok(()) => Ok(Clean { host, opened: None }),
-                Err(_) => Err(Lost { host, fault: HostFault }),
+                Err(_) => Err(Lost {
+                    host,
+                    fault: HostFault,
+                }),
             },
         }
     }
@@ -171,7 +177,10 @@ impl<H: Host> Staging<H> {
     pub fn abandon(self) -> Clean<H>
         ensures { result ≡ self }
     {
-        Clean { host: self.host, opened: self.opened }
+        Clean {
+            host: self.host,
+            opened: self.opened,
+        }
     }
 
     /// Adds a record that makes the path absent. `HostFault` comes only where the host's faults rose.
@@ -192,7 +201,10 @@ impl<H: Host> Staging<H> {
         let _path = path.bytes();
         match staging::add_remove(&mut host, Slot::spare(opened), path.view()) {
             Ok(()) => Ok(Staging { host, opened }),
-            Err(_) => Err(Lost { host, fault: HostFault }),
+            Err(_) => Err(Lost {
+                host,
+                fault: HostFault,
+            }),
         }
     }
 
@@ -214,7 +226,10 @@ impl<H: Host> Staging<H> {
         let _path = path.bytes();
         match staging::add_write(&mut host, Slot::spare(opened), path.view(), bytes) {
             Ok(()) => Ok(Staging { host, opened }),
-            Err(_) => Err(Lost { host, fault: HostFault }),
+            Err(_) => Err(Lost {
+                host,
+                fault: HostFault,
+            }),
         }
     }
 
@@ -236,8 +251,14 @@ impl<H: Host> Staging<H> {
         let mut host = self.host;
         let opened = self.opened;
         match gate::commit(&mut host, opened) {
-            Ok(()) => Ok(Committed { host, slot: Slot::spare(opened) }),
-            Err(_) => Err(Lost { host, fault: HostFault }),
+            Ok(()) => Ok(Committed {
+                host,
+                slot: Slot::spare(opened),
+            }),
+            Err(_) => Err(Lost {
+                host,
+                fault: HostFault,
+            }),
         }
     }
 }
@@ -258,7 +279,10 @@ impl<H: Host> Committed<H> {
         let slot = self.slot;
         match resume::apply(&mut host, slot) {
             Ok(()) => Ok(Applied { host, slot }),
-            Err(_) => Err(Lost { host, fault: HostFault }),
+            Err(_) => Err(Lost {
+                host,
+                fault: HostFault,
+            }),
         }
     }
 }
@@ -268,6 +292,9 @@ impl<H: Host> Applied<H> {
     pub fn close(self) -> Clean<H>
         ensures { result ≡ self }
     {
-        Clean { host: self.host, opened: Some(self.slot) }
+        Clean {
+            host: self.host,
+            opened: Some(self.slot),
+        }
     }
 }

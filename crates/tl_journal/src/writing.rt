@@ -58,8 +58,15 @@ impl<H: Host> Staging<H> {
         let opened = self.opened;
         let _path = path.bytes();
         match staging::add_head(&mut host, Slot::spare(opened), path.view(), len) {
-            Ok(()) => Ok(Writing { host, opened, left: len }),
-            Err(_) => Err(Lost { host, fault: HostFault }),
+            Ok(()) => Ok(Writing {
+                host,
+                opened,
+                left: len,
+            }),
+            Err(_) => Err(Lost {
+                host,
+                fault: HostFault,
+            }),
         }
     }
 }
@@ -84,7 +91,10 @@ impl<H: Host> Writing<H> {
         let left = self.left - bytes.len() as u64;
         match staging::add(&mut host, Slot::spare(opened), bytes) {
             Ok(()) => Ok(Writing { host, opened, left }),
-            Err(_) => Err(Lost { host, fault: HostFault }),
+            Err(_) => Err(Lost {
+                host,
+                fault: HostFault,
+            }),
         }
     }
 
@@ -94,13 +104,19 @@ impl<H: Host> Writing<H> {
         ensures seen { result ≡ self.seen }
         ensures added { Told H.tells (staged result ≡ coming self []) }
     {
-        Staging { host: self.host, opened: self.opened }
+        Staging {
+            host: self.host,
+            opened: self.opened,
+        }
     }
 
     /// Gives the change up.
     pub fn abandon(self) -> Clean<H>
         ensures { result ≡ self.seen }
     {
-        Clean { host: self.host, opened: self.opened }
+        Clean {
+            host: self.host,
+            opened: self.opened,
+        }
     }
 }

@@ -9,7 +9,6 @@ use Rattle.tl_journal_text.specs.Stand.{tree_of}
 use Rattle.tl_journal_text.proofs.Targets.{target_outside}
 use Rattle.tl_journal_text.proofs.Trees.{at_outside, at_ours, split}
 
-
 pub fits_outside : (r : Record) → Fits r → is_ours (name_of r) ≡ false
 fits_outside (Remove name) fits = target_outside name fits
 fits_outside (Write name bytes) fits = target_outside name fits.0

@@ -42,7 +42,10 @@ impl Head {
         ensures { result ≡ text_of (Remove path.entry) }
     {
         let path = path.bytes();
-        Head { bytes: begin(b'R', path), length: 3 + path.len() }
+        Head {
+            bytes: begin(b'R', path),
+            length: 3 + path.len(),
+        }
     }
 
     /// The text of a record that writes so many bytes to a path, as far as the bytes.
@@ -53,7 +56,10 @@ impl Head {
         let mut bytes = begin(b'W', path);
         let end = 3 + path.len();
         bytes[end..end + 8].copy_from_slice(&size.to_be_bytes());
-        Head { bytes, length: end + 8 }
+        Head {
+            bytes,
+            length: end + 8,
+        }
     }
 
     /// The text.

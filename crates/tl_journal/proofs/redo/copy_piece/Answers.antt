@@ -27,6 +27,6 @@ returns-clause-copied g c t =
     ap (λ (v : Volume). at v c.args.name) (c.in_ok-append.ensures.added t) ∙ at-insert_here _ c.args.name _
     ∙ ap (λ (m : Moment). Some (bytes_at m.held c.args.name ++ take count c.bytes_from-part.result.now)) (c.reach.ensures.quiet t).present
     ∙ ap (λ (l : List ℕ). Some (bytes_at (s c.args.host.now).present.held c.args.name ++ l)) (
-      ap (λ (l : List ℕ). take count l) c.bytes_from-part.ensures
-      ∙ filled c.reach.new.self (s c.reach.new.host) c.args.from count _ (c.in_ok-reach.ensures.part t) text few
+    ap (λ (l : List ℕ). take count l) c.bytes_from-part.ensures
+    ∙ filled c.reach.new.self (s c.reach.new.host) c.args.from count _ (c.in_ok-reach.ensures.part t) text few
     )

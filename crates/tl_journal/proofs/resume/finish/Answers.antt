@@ -28,8 +28,10 @@ returns-in-Some-clause-bad g c t =
     let base = s c.args.host.now in
     let text = ap (λ (x : Slot). body_at x (s c.body_of.new.host)) c.in_ok-body.ensures.slot ∙ same_body_at c.args.slot base (s c.body_of.new.host) (c.body_of.ensures.quiet t) in
     let found = subst (λ (o : Option ℕ). MatchOption o ((rs : List Record) × (reading (body_at c.in_ok-body.body.slot (s c.body_of.new.host)) ≡ Whole rs)) (λ place. reading (body_at c.in_ok-body.body.slot (s c.body_of.new.host)) ≡ Bad place)) c.in-Some.is (c.in_ok-at.ensures.reading t) in
-    let bad = ap (λ (l : List ℕ). reading l) (sym text) ∙ found in (
-      (fault_open base.present.held c.args.slot c.in-Some.at (c.requires.opened t) bad).1,
+    let bad = ap (λ (l : List ℕ). reading l) (sym text) ∙ found in
+    let faulty = fault_open base.present.held c.args.slot c.in-Some.at (c.requires.opened t) bad in (
+      faulty.0,
+      faulty.1,
       ap (λ (m : Moment). m.held) (quiet_join _ _ _ (c.body_of.ensures.quiet t) (c.fault.ensures.quiet t)).present,
     )
 
