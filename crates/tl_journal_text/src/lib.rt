@@ -4,6 +4,8 @@
 mod head;
 mod names;
 mod slot;
+#[cfg(test)]
+mod tests;
 
 pub use head::Head;
 pub use names::{is_outside, is_target, target};
