@@ -1,10 +1,9 @@
 -- Before the gate is written or removed.
-use Rattle.std.proofs.Common.{◌≡◌, ◌≢◌, ◌++◌, Bool, true, List, [], ◌∷◌, ℕ, Option, Some, None, refl, sym, ◌∙◌, ap, subst, inl, inr}
+use Rattle.std.proofs.Common.{◌≡◌, ◌≢◌, true, List, [], ◌∷◌, ℕ, Option, Some, refl, sym, ◌∙◌, ap, subst, inl, inr}
 use Rattle.std.specs.Option.{unwrap_or}
 use Rattle.tl_model.specs.Volume.{Name, Volume, at, SameBut}
-use Rattle.tl_model.specs.Seen.{Seen, Changes, Syncs}
+use Rattle.tl_model.specs.Seen.{Seen, Syncs}
 use Rattle.tl_journal_text.specs.declared.slot.Slot.{Slot}
-use Rattle.tl_journal_text.specs.declared.slot.Slot.TheVariants.{One, Two}
 use Rattle.tl_journal_text.specs.Slots.{body_of, open_slot, spare, other}
 use Rattle.tl_journal_text.specs.Records.{Record, after}
 use Rattle.tl_journal_text.specs.Body.{records_of, records_in}
@@ -12,9 +11,9 @@ use Rattle.tl_journal_text.specs.Stand.{tree_of, bytes_at}
 use Rattle.tl_journal_text.proofs.ReadBack.{written}
 use Rattle.tl_journal_text.proofs.Trees.{other_other, bodies_apart}
 use Rattle.tl_journal.specs.States.{IsClean, IsStaging, KeepsTree, Between, Fixed, Grows, staged, pending, spare_body}
-use Rattle.tl_journal.proofs.Live.{free_spare, free_shut, keeps_tree, keeps_open, tree_start, tree_change, tree_join}
+use Rattle.tl_journal.proofs.Live.{free_spare, keeps_tree, tree_join}
 use Rattle.tl_journal.proofs.Gates.{between_start, again}
-use Rattle.tl_journal.proofs.Staged.{ended, spare_is, spare_stays}
+use Rattle.tl_journal.proofs.Staged.{ended, spare_stays}
 
 -- a body that is an end alone
 pub only_end : (body : Option (List ℕ)) → body ≡ Some (69 ∷ []) → records_of (unwrap_or body []) ≡ Some []

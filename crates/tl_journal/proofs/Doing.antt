@@ -1,26 +1,25 @@
 -- Records are being carried out.
-use Rattle.std.proofs.Common.{◌≡◌, ◌≢◌, ◌<◌, ◌≤◌, ◌+◌, ℕ, suc, Bool, true, List, [], ◌∷◌, ◌++◌, length, take, drop, Option, Some, None, refl, sym, ◌∙◌, ap, subst, inl, inr, arith}
+use Rattle.std.proofs.Common.{◌≡◌, ◌≢◌, ◌<◌, ◌≤◌, ◌+◌, ℕ, suc, Bool, true, List, [], ◌++◌, length, take, drop, Option, Some, refl, sym, ◌∙◌, ap, subst, inl, inr, arith}
 use Rattle.std.specs.Option.{unwrap_or}
 use Rattle.std.specs.List.{AllByRecursion}
 use Rattle.std.specs.FinMap as map
 use Rattle.std.proofs.Math.Seq.{take-add}
 use Rattle.std.proofs.lemmas.List.{drop-drop}
-use Rattle.tl_model.specs.Volume.{Name, Volume, at, SameBut, at-insert_here, at-insert_apart}
-use Rattle.tl_model.specs.Seen.{Moment, Seen, Quiet, Changes}
+use Rattle.tl_model.specs.Volume.{Name, Volume, at, SameBut, at-insert_apart}
+use Rattle.tl_model.specs.Seen.{Seen, Changes}
 use Rattle.tl_journal_text.specs.declared.slot.Slot.{Slot}
 use Rattle.tl_journal_text.specs.Slots.{body_of, open_slot}
 use Rattle.tl_journal_text.specs.Records.{Record, Fits, name_of, is_target, IsAmong, after}
-use Rattle.tl_journal_text.specs.Body.{Next, Ends, Faulty, Takes, Stops, next, Whole, reading_by, reading, records_of}
-use Rattle.tl_journal_text.specs.Stand.{tree_of, bytes_at, stand}
+use Rattle.tl_journal_text.specs.Body.{Next, Ends, Faulty, Takes, Stops, next, Whole, reading_by}
+use Rattle.tl_journal_text.specs.Stand.{tree_of, bytes_at}
 use Rattle.tl_journal_text.proofs.Acts.{tree_after_one, same_but_join, inserted}
 use Rattle.tl_journal_text.proofs.Targets.{target_outside}
 use Rattle.tl_journal_text.proofs.Trees.{not_body, stand_open}
 use Rattle.tl_journal_text.proofs.Turns.{one_read, none_read, rest_at, records_whole}
-use Rattle.tl_journal.specs.States.{pending, IsLive, IsClean, Fixed, Keeps}
-use Rattle.tl_journal.specs.Reading.{Part, body_at, bytes_from, IsPartOf}
+use Rattle.tl_journal.specs.States.{pending, IsLive, IsClean, Keeps}
+use Rattle.tl_journal.specs.Reading.{Part, body_at, IsPartOf}
 use Rattle.tl_journal.specs.Acting.{MayAct, Acts}
 use Rattle.tl_journal.proofs.Live.{keeps_start, keeps_change, keeps_live, keeps_stand, free_record}
-use Rattle.tl_journal.proofs.Pieces.{part_front}
 
 -- one call more that changes the path of a record
 pub keeps_record : (base mid new : Seen) (ok : Bool) (name : Name) → IsAmong name (pending base.present.held) → Keeps base mid → Changes ok name mid new → Keeps base new

@@ -1,5 +1,5 @@
 -- What is read from the front of a text.
-use Rattle.std.proofs.Common.{◌≡◌, ◌≢◌, ◌⊎◌, ◌<◌, ◌≤◌, ◌+◌, ◌-◌, ℕ, Bool, true, false, cond, not, List, length, take, drop, Some, None, Result, Ok, Err, IfOk, refl, sym, ◌∙◌, ap, subst, inl, inr, arith, length-drop}
+use Rattle.std.proofs.Common.{◌≡◌, ◌≢◌, ◌⊎◌, ◌<◌, ◌≤◌, ◌+◌, ◌-◌, ℕ, Bool, true, false, cond, not, List, length, take, drop, Result, Ok, Err, IfOk, refl, sym, ◌∙◌, ap, inl, inr, arith, length-drop}
 use Rattle.std.specs.Prelude.{nat_lt, slice_index, IsTrue}
 use Rattle.std.specs.Int.{w16, w64, from_be_bytes}
 use Rattle.std.proofs.lemmas.Bool.{le-ltb, lt-ltb, ltb-false, ltb-true, cond-true, cond-false, not-true, not-false, cases_lt}

@@ -1,13 +1,12 @@
 -- The gate is written or removed while nothing else changes.
-use Rattle.std.proofs.Common.{◌≡◌, ◌≢◌, ◌⊎◌, ℕ, Bool, true, false, List, [], ◌∷◌, ◌++◌, Option, Some, None, Result, Ok, Err, OnOk, IsSome, refl, sym, ◌∙◌, ap, subst, inl, inr}
+use Rattle.std.proofs.Common.{◌≡◌, ◌≢◌, ◌⊎◌, ℕ, Bool, true, false, List, [], ◌∷◌, Option, Some, None, Result, Ok, Err, OnOk, refl, sym, ◌∙◌, ap, subst, inl, inr}
 use Rattle.std.specs.Option.{unwrap_or}
 use Rattle.std.specs.List.{AllByRecursion}
 use Rattle.std.specs.FinSet as set
-use Rattle.std.specs.FinMap as map
 use Rattle.std.specs.Result.{is_ok}
-use Rattle.tl_model.specs.Volume.{Name, Volume, at, contains-insert_apart, at-insert_here}
+use Rattle.tl_model.specs.Volume.{Name, Volume, at, contains-insert_apart}
 use Rattle.tl_model.specs.Seen.{Seen, Leaves, Since, Changes, Syncs, changing}
-use Rattle.tl_model.specs.Pictures.{since_start, since_weaker, after_change, after_sync, changes_touched}
+use Rattle.tl_model.specs.Pictures.{since_weaker, after_change, after_sync, changes_touched}
 use Rattle.tl_journal_text.specs.declared.slot.Slot.{Slot}
 use Rattle.tl_journal_text.specs.declared.slot.Slot.TheVariants.{One, Two}
 use Rattle.tl_journal_text.specs.Slots.{gate, body_of, byte_of, open_slot, opens, other}
@@ -15,7 +14,7 @@ use Rattle.tl_journal_text.specs.Records.{Record, Fits, after}
 use Rattle.tl_journal_text.specs.Body.{records_of}
 use Rattle.tl_journal_text.specs.Stand.{tree_of, bytes_at, stand, Stays, IsBeforeOrAfter}
 use Rattle.tl_journal_text.proofs.Trees.{same_tree, stand_shut, stand_open, not_gate, gate_body}
-use Rattle.tl_journal.specs.States.{pending, IsFixed, IsLive, IsClean, KeepsTree, Between, IsSettled}
+use Rattle.tl_journal.specs.States.{pending, IsLive, IsClean, KeepsTree, Between, IsSettled}
 use Rattle.tl_journal.proofs.Live.{nothing_more, pending_shut, pending_open, keeps_tree}
 
 cases_slot : (a b : Slot) → (a ≡ b) ⊎ (a ≡ other b)

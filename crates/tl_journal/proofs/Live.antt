@@ -1,22 +1,20 @@
 -- Volumes and hosts on which nothing that stays has changed.
-use Rattle.std.proofs.Common.{◌≡◌, ◌≢◌, ◌⊎◌, Bool, true, false, ℕ, zero, suc, List, [], ◌++◌, take, Option, Some, None, refl, sym, ◌∙◌, ap, subst, inl, inr}
+use Rattle.std.proofs.Common.{◌≡◌, ◌≢◌, Bool, false, ℕ, zero, suc, List, [], ◌++◌, take, Option, Some, None, refl, sym, ◌∙◌, ap, subst, inl, inr}
 use Rattle.std.specs.Option.{unwrap_or}
 use Rattle.std.specs.List.{AllByRecursion}
 use Rattle.std.specs.FinSet as set
 use Rattle.std.proofs.lemmas.List.{append-nil}
-use Rattle.std.proofs.lemmas.Bool.{true≢false}
 use Rattle.tl_model.specs.Volume.{Name, Volume, at, contains-insert_apart}
-use Rattle.tl_model.specs.Seen.{Moment, Seen, Since, Quiet, Changes, Says, Syncs}
-use Rattle.tl_model.specs.Pictures.{since_start, since_join, since_weaker, after_change, after_quiet, changes_touched, reads_back}
+use Rattle.tl_model.specs.Seen.{Moment, Seen, Quiet, Changes}
+use Rattle.tl_model.specs.Pictures.{since_start, since_join, since_weaker, after_change, after_quiet, changes_touched}
 use Rattle.tl_journal_text.specs.declared.slot.Slot.{Slot}
-use Rattle.tl_journal_text.specs.declared.slot.Slot.TheVariants.{One, Two}
-use Rattle.tl_journal_text.specs.Slots.{gate, body_of, open_slot, opens, spare, other}
-use Rattle.tl_journal_text.specs.Records.{Record, is_ours, Fits, IsAmong, after}
+use Rattle.tl_journal_text.specs.Slots.{gate, body_of, open_slot, opens, spare}
+use Rattle.tl_journal_text.specs.Records.{Record, is_ours, Fits, IsAmong}
 use Rattle.tl_journal_text.specs.Body.{records_of}
-use Rattle.tl_journal_text.specs.Stand.{tree_of, bytes_at, stand, Stays}
-use Rattle.tl_journal_text.proofs.Trees.{same_tree, stand_shut, stand_open, ours_body, not_body, not_gate, gate_body, bodies_apart}
+use Rattle.tl_journal_text.specs.Stand.{tree_of, bytes_at, stand}
+use Rattle.tl_journal_text.proofs.Trees.{same_tree, stand_shut, stand_open, ours_body, not_body, gate_body, bodies_apart}
 use Rattle.tl_journal_text.proofs.Acts.{tree_agrees, ours_apart}
-use Rattle.tl_journal.specs.States.{records_at, pending, IsFixed, IsLive, IsClean, Fixed, Keeps, KeepsTree, IsSettled, spare_body}
+use Rattle.tl_journal.specs.States.{records_at, pending, IsFixed, IsLive, IsClean, Fixed, Keeps, KeepsTree, spare_body}
 
 -- what is said at a stop while nothing is being said
 pub nothing_more : (said bytes : List ℕ) (count : ℕ) → said ≡ bytes ++ take count [] → said ≡ bytes

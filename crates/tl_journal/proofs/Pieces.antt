@@ -1,7 +1,7 @@
 -- Pieces of a body.
-use Rattle.std.proofs.Common.{◌≡◌, ◌<◌, ◌≤◌, ◌+◌, ◌-◌, ℕ, Bool, true, false, cond, not, List, [], length, take, drop, Result, Ok, Err, OnOk, IfOk, refl, sym, ◌∙◌, ap, subst, inl, inr, arith, length-drop}
-use Rattle.std.specs.Prelude.{nat_lt, min, IsTrue}
-use Rattle.std.proofs.lemmas.Bool.{ltb-false, ltb-true, le-ltb, lt-ltb, cases_lt}
+use Rattle.std.proofs.Common.{◌≡◌, ◌≤◌, ◌+◌, ◌-◌, ℕ, Bool, true, false, cond, List, [], length, take, drop, Result, Ok, Err, OnOk, refl, sym, ◌∙◌, ap, inl, inr, arith}
+use Rattle.std.specs.Prelude.{nat_lt, min}
+use Rattle.std.proofs.lemmas.Bool.{ltb-false, ltb-true, cases_lt}
 use Rattle.std.proofs.lemmas.List.{drop-drop, drop-take, length-take, take_min, take-take, drop_all}
 use Rattle.tl_model.specs.Seen.{Moment, Seen, Quiet}
 use Rattle.tl_journal_text.specs.declared.slot.Slot.{Slot}

@@ -1,5 +1,5 @@
 -- Going on after a stop.
-use Rattle.std.proofs.Common.{◌≡◌, ◌<◌, ◌^◌, ◌⊎◌, ℕ, Bool, false, List, [], length, take, drop, Option, Some, None, refl, sym, ◌∙◌, ap, subst, inl, inr}
+use Rattle.std.proofs.Common.{◌≡◌, ◌<◌, ◌^◌, ℕ, Bool, false, List, [], length, Option, Some, None, refl, sym, ◌∙◌, ap, subst, inl, inr}
 use Rattle.std.specs.Option.{unwrap_or, option_map}
 use Rattle.std.specs.Prelude.{MatchOption}
 use Rattle.std.specs.List.{AllByRecursion}
@@ -7,16 +7,16 @@ use Rattle.std.specs.FinSet as set
 use Rattle.std.proofs.lemmas.List.{append-nil}
 use Rattle.tl_model.specs.Volume.{Name, Volume, at, same_volume}
 use Rattle.tl_model.specs.Seen.{Moment, Seen, Since, Quiet, Says}
-use Rattle.tl_model.specs.Pictures.{since_start, since_join, since_weaker, after_quiet, after_say, reads_back}
+use Rattle.tl_model.specs.Pictures.{since_start, since_join, since_weaker, after_say, reads_back}
 use Rattle.tl_journal_text.specs.declared.slot.Slot.{Slot}
-use Rattle.tl_journal_text.specs.Slots.{body_of, open_slot, opens, gate}
+use Rattle.tl_journal_text.specs.Slots.{body_of, open_slot}
 use Rattle.tl_journal_text.specs.Records.{Record, Fits}
-use Rattle.tl_journal_text.specs.Body.{reading, Whole, Bad, records_of, records_in}
-use Rattle.tl_journal_text.specs.Stand.{bytes_at, stand, journal_fault, Stays, IsResumed, SaysFront}
+use Rattle.tl_journal_text.specs.Body.{reading, Whole, records_of, records_in}
+use Rattle.tl_journal_text.specs.Stand.{bytes_at, stand, Stays, IsResumed, SaysFront}
 use Rattle.tl_journal_text.proofs.Turns.{all_fit}
 use Rattle.tl_journal.specs.States.{IsLive, IsSettled, Keeps, pending}
 use Rattle.tl_journal.specs.Reading.{Part, IsPartOf, body_at}
-use Rattle.tl_journal.proofs.Live.{nothing_more, pending_open, keeps_start, keeps_quiet, keeps_join, live_moves, same_open}
+use Rattle.tl_journal.proofs.Live.{nothing_more, pending_open, keeps_start, keeps_quiet, keeps_join}
 
 sizes : (o : Option (List ℕ)) → unwrap_or (option_map length o) 0 ≡ length (unwrap_or o [])
 sizes None = refl

@@ -5,12 +5,12 @@ use Rattle.std.specs.List.{AllByRecursion}
 use Rattle.std.proofs.lemmas.List.{append-nil}
 use Rattle.std.specs.FinMap as map
 use Rattle.tl_model.specs.Volume.{Name, Volume, at, at-insert_here}
-use Rattle.tl_model.specs.Seen.{Moment, Seen, Changes}
+use Rattle.tl_model.specs.Seen.{Seen, Changes}
 use Rattle.tl_journal_text.specs.Records.{Record, Write, Fits, is_target, records_text, text_of, write_head}
 use Rattle.tl_journal_text.specs.Body.{records_of, records_in}
 use Rattle.tl_journal_text.specs.Stand.{bytes_at}
 use Rattle.tl_journal_text.proofs.ReadBack.{written, all_push, text_push}
-use Rattle.tl_journal.specs.States.{IsClean, IsStaging, IsWriting, Writes, Grows, KeepsTree, spare_body, staged, coming}
+use Rattle.tl_journal.specs.States.{IsClean, IsStaging, IsWriting, Grows, KeepsTree, spare_body, staged, coming}
 use Rattle.tl_journal_text.specs.declared.slot.Slot.{Slot}
 use Rattle.tl_journal_text.specs.Slots.{body_of, open_slot, spare}
 use Rattle.tl_journal.proofs.Live.{keeps_open, tree_change, tree_start, free_spare}

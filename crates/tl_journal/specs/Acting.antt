@@ -1,6 +1,6 @@
 -- Records that are being carried out.
-use Rattle.std.specs.Prelude.{◌≡◌, ◌≤◌, ◌<◌, ℕ, List, length, drop, Option, Some, None}
-use Rattle.tl_model.specs.Volume.{Name, Volume}
+use Rattle.std.specs.Prelude.{◌≡◌, ℕ, List, drop, Option, Some, None}
+use Rattle.tl_model.specs.Volume.{Volume}
 use Rattle.tl_model.specs.Seen.{Seen}
 use Rattle.tl_journal_text.specs.Records.{Record, name_of, IsAmong, after_one}
 use Rattle.tl_journal_text.specs.Body.{Next, Ends, Faulty, Takes, Stops, next}

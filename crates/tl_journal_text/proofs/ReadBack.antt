@@ -7,7 +7,7 @@ use Rattle.std.proofs.lemmas.Bool.{le-ltb}
 use Rattle.std.proofs.lemmas.List.{take_at, drop_at, append-nil}
 use Rattle.std.proofs.lemmas.Nat.{from_be_bytes-to_be_bytes_2, from_be_bytes-to_be_bytes_8}
 use Rattle.tl_model.specs.Volume.{Name}
-use Rattle.tl_journal_text.specs.Records.{Record, Remove, Write, Fits, is_target, text_of, write_head, records_text}
+use Rattle.tl_journal_text.specs.Records.{Record, Remove, Write, Fits, is_target, text_of, records_text}
 use Rattle.tl_journal_text.proofs.Targets.{target_short}
 use Rattle.tl_journal_text.specs.Body.{Next, Ends, Faulty, Takes, taken, named, sized, next_of, next, Reading, Whole, Bad, before, reading_by, reading}
 

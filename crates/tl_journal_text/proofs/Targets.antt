@@ -1,8 +1,8 @@
 -- The names that records may change.
-use Rattle.std.proofs.Common.{◌≡◌, ◌<◌, ◌≤◌, ◌&&◌, ℕ, Bool, true, false, not, cond, List, length, Option, Some, None, refl, sym, ◌∙◌, ap, arith, eqb}
+use Rattle.std.proofs.Common.{◌≡◌, ◌<◌, ◌≤◌, ◌&&◌, Bool, true, false, cond, length, Option, Some, None, refl, sym, ◌∙◌, ap, arith, eqb}
 use Rattle.std.specs.Prelude.{nat_lt}
 use Rattle.std.specs.Option.{is_none}
-use Rattle.std.proofs.lemmas.Bool.{true≢false, and_parts, and_left, not-true, ltb-false}
+use Rattle.std.proofs.lemmas.Bool.{and_parts, not-true, ltb-false}
 use Rattle.tl_model.specs.Volume.{Name}
 use Rattle.tl_path.specs.declared.fault.PathFault.{PathFault}
 use Rattle.tl_path.specs.declared.fault.PathKind.TheVariants.{Empty, Long}

@@ -8,9 +8,9 @@ use Rattle.std.proofs.lemmas.Bool.{true≢false, and_right}
 use Rattle.tl_model.specs.Volume.{Name, Volume, at, same_volume, same_name, same_name-refl}
 use Rattle.tl_journal_text.specs.declared.slot.Slot.{Slot}
 use Rattle.tl_journal_text.specs.declared.slot.Slot.TheVariants.{One, Two}
-use Rattle.tl_journal_text.specs.Slots.{gate, body_of, open_slot, other, spare, opens}
+use Rattle.tl_journal_text.specs.Slots.{gate, body_of, open_slot, other, opens}
 use Rattle.tl_journal_text.specs.Records.{Record, is_ours, after}
-use Rattle.tl_journal_text.specs.Body.{Reading, Whole, Bad, records_of, records_in, fault_of, fault_in, reading}
+use Rattle.tl_journal_text.specs.Body.{Bad, records_of, records_in, fault_of, fault_in, reading}
 use Rattle.tl_journal_text.specs.Stand.{tree_of, bytes_at, stand, journal_fault}
 
 pub at-tree_of : (v : Volume) (q : Name) → at (tree_of v) q ≡ cond (not (is_ours q)) (at v q) None

@@ -1,5 +1,5 @@
 -- How the body of a journal is read.
-use Rattle.std.specs.Prelude.{◌≡◌, ◌+◌, ℕ, zero, suc, Bool, ◌==◌, if◌then◌else◌, List, [], ◌∷◌, ◌++◌, length, take, drop, Option, Some, None, nat_lt, slice_index}
+use Rattle.std.specs.Prelude.{◌+◌, ℕ, zero, suc, ◌==◌, if◌then◌else◌, List, [], ◌∷◌, length, take, drop, Option, Some, None, nat_lt, slice_index}
 use Rattle.std.specs.Int.{w16, w64, from_be_bytes}
 use Rattle.tl_model.specs.Volume.{Name}
 use Rattle.tl_journal_text.specs.Records.{Record, Remove, Write, is_target, text_of}

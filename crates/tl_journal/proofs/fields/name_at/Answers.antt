@@ -1,9 +1,8 @@
-use Rattle.std.proofs.Common.{◌≡◌, ◌<◌, ◌+◌, ◌++◌, ◌∙◌, ap, sym, subst, cond, ℕ, List, length, take, drop, arith, Bool, true, false}
+use Rattle.std.proofs.Common.{◌≡◌, ◌+◌, ◌++◌, ◌∙◌, ap, sym, subst, ℕ, List, length, take, drop, arith}
 use Rattle.std.proofs.lemmas.Bool.{cond-true, cond-false}
 use Rattle.std.proofs.lemmas.List.{take_at, length-take}
 use Rattle.tl_model.specs.Pictures.{quiet_join}
 use Rattle.tl_journal_text.specs.Records.{is_target}
-use Rattle.tl_journal_text.specs.Body.{Faulty}
 use Rattle.tl_journal.specs.Reading.{body_at}
 use Rattle.tl_journal.proofs.Pieces.{same_text}
 use Rattle.tl_journal.proofs.Fronts.{Front, name_cut, name_long, name_read}

@@ -1,10 +1,9 @@
-use Rattle.std.proofs.Common.{◌≡◌, ◌+◌, ◌∙◌, ap, sym, subst, inl, inr, arith, List, ℕ, length, take, Bool}
+use Rattle.std.proofs.Common.{◌≡◌, ◌+◌, ◌∙◌, subst, inl, inr, arith, List, ℕ, length, take}
 use Rattle.std.proofs.lemmas.List.{length-take}
 use Rattle.std.proofs.lemmas.Result.{IfOk-weaker}
 use Rattle.tl_model.specs.Pictures.{quiet_join}
 use Rattle.tl_journal.specs.declared.fields.Field.{Field}
 use Rattle.tl_journal.specs.declared.fields.Field.TheVariants as fields
-use Rattle.tl_journal.specs.declared.fields.Item.{Item}
 use Rattle.tl_journal.specs.Items.{NameGoes, IsFieldInside, IsWritten}
 use Rattle.tl_journal.specs.Reading.{body_at}
 use Rattle.tl_journal.proofs.Pieces.{same_text}

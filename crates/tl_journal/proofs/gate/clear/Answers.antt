@@ -2,7 +2,7 @@ use Rattle.std.proofs.Common.{◌∙◌, ap, sym, subst, Some, Option, List, [],
 use Rattle.std.specs.Option.{unwrap_or}
 use Rattle.std.specs.Result.{is_ok}
 use Rattle.std.proofs.lemmas.Result.{on_ok_weaker}
-use Rattle.tl_model.specs.Volume.{Name, SameBut}
+use Rattle.tl_model.specs.Volume.{Name}
 use Rattle.tl_model.specs.Seen.{Changes}
 use Rattle.tl_journal.proofs.Live.{tree_start, tree_change}
 use Rattle.tl_journal_text.proofs.Acts.{same_but_join}

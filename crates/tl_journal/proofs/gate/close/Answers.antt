@@ -1,4 +1,4 @@
-use Rattle.std.proofs.Common.{◌≡◌, ◌∙◌, ap, sym, subst, Some, [], true, refl, Option, List, ℕ}
+use Rattle.std.proofs.Common.{◌≡◌, ◌∙◌, ap, subst, Some, []}
 use Rattle.std.specs.Result.{is_ok}
 use Rattle.tl_model.specs.Volume.{Volume}
 use Rattle.tl_model.specs.Pictures.{after_sync}

@@ -1,15 +1,13 @@
-use Rattle.std.proofs.Common.{◌≡◌, ◌∙◌, ap, sym, subst, Some, IsSome, Option, List, ℕ, true, refl}
+use Rattle.std.proofs.Common.{◌∙◌, ap, sym, subst, Some}
 use Rattle.std.specs.Result.{is_ok}
-use Rattle.tl_model.specs.Volume.{at}
-use Rattle.tl_model.specs.Seen.{Seen}
 use Rattle.tl_model.specs.Pictures.{after_sync}
 use Rattle.tl_journal_text.specs.declared.slot.Slot.{Slot}
-use Rattle.tl_journal_text.specs.Slots.{spare, body_of, open_slot}
+use Rattle.tl_journal_text.specs.Slots.{spare}
 use Rattle.tl_journal.specs.States.{Between, staged}
 use Rattle.tl_journal.proofs.Live.{keeps_clean, keeps_open, tree_join}
 use Rattle.tl_journal.proofs.Gates.{pictures_before, opened}
 use Rattle.tl_journal.proofs.Commits.{commit_start}
-use Rattle.tl_journal.proofs.Staged.{spare_is, staging_there}
+use Rattle.tl_journal.proofs.Staged.{staging_there}
 use Rattle.tl_journal.proofs.Pieces.{on_ok_both}
 use Rattle.tl_journal.proofs.gate.commit.Goals as goal
 

@@ -1,9 +1,9 @@
-use Rattle.std.proofs.Common.{◌≤◌, ◌+◌, ◌∙◌, ap, sym, subst, Some, Option, List, [], ◌∷◌, ◌++◌, ℕ, IsSome, refl, arith, true}
+use Rattle.std.proofs.Common.{◌∙◌, ap, sym, subst, Some, Option, List, [], ◌∷◌, ◌++◌, ℕ, IsSome, refl}
 use Rattle.std.specs.Option.{unwrap_or}
 use Rattle.std.specs.Result.{is_ok}
 use Rattle.tl_model.specs.Volume.{Name, Volume, at}
 use Rattle.tl_model.specs.Seen.{Changes}
-use Rattle.tl_journal_text.specs.Slots.{gate, byte_of}
+use Rattle.tl_journal_text.specs.Slots.{gate}
 use Rattle.tl_journal.proofs.Gates.{between_change, between_sync, settles, on_sync}
 use Rattle.tl_journal.proofs.Staged.{made_empty, appended}
 use Rattle.tl_journal.proofs.gate.open.Goals as goal

@@ -1,6 +1,5 @@
-use Rattle.std.proofs.Common.{◌∙◌, ap, sym, subst, Some, None, Option, refl, []}
+use Rattle.std.proofs.Common.{◌∙◌, sym, subst, Option, refl, []}
 use Rattle.std.proofs.lemmas.Result.{on_ok_weaker}
-use Rattle.std.specs.Prelude.{OnOk}
 use Rattle.tl_model.specs.Volume.{SameBut}
 use Rattle.tl_journal_text.specs.declared.slot.Slot.{Slot}
 use Rattle.tl_journal_text.specs.declared.slot.Slot.TheVariants.{Two}

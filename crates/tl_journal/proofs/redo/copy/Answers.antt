@@ -1,4 +1,4 @@
-use Rattle.std.proofs.Common.{◌≡◌, ◌+◌, ◌++◌, ◌∙◌, ap, sym, subst, Some, take, drop, arith}
+use Rattle.std.proofs.Common.{◌≡◌, ◌+◌, ◌++◌, ◌∙◌, sym, subst, Some, take, drop, arith}
 use Rattle.tl_model.specs.Volume.{Name, at, SameBut}
 use Rattle.tl_journal_text.specs.Records.{IsAmong}
 use Rattle.tl_journal.specs.States.{pending}

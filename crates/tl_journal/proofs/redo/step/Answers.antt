@@ -1,9 +1,8 @@
-use Rattle.std.proofs.Common.{◌≡◌, ◌≢◌, ◌<◌, ◌^◌, ◌∙◌, ap, sym, length, take, drop, subst, arith}
+use Rattle.std.proofs.Common.{◌≢◌, sym, take, subst}
 use Rattle.tl_model.specs.Volume.{Name}
 use Rattle.tl_journal_text.specs.Records.{IsAmong}
 use Rattle.tl_journal.specs.States.{pending}
 use Rattle.tl_journal_text.specs.Body.{Next}
-use Rattle.tl_journal_text.specs.declared.slot.Slot.{Slot}
 use Rattle.tl_journal_text.specs.Slots.{body_of}
 use Rattle.tl_journal.specs.Items.{IsItem, IsInside}
 use Rattle.tl_journal.specs.Acting.{MayAct}

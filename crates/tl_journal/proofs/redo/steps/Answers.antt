@@ -1,4 +1,4 @@
-use Rattle.std.proofs.Common.{◌≡◌, ◌≤◌, ◌<◌, ◌∙◌, ap, sym, subst, Option, Some, None, IfSome, ℕ, List, length, drop, arith}
+use Rattle.std.proofs.Common.{◌≤◌, ◌<◌, ◌∙◌, ap, sym, subst, Option, Some, None, IfSome, ℕ, length, drop, arith}
 use Rattle.tl_journal_text.specs.declared.slot.Slot.{Slot}
 use Rattle.tl_journal_text.specs.Body.{next}
 use Rattle.tl_journal.specs.Acting.{Acted, MayAct}

@@ -1,4 +1,4 @@
-use Rattle.std.proofs.Common.{◌≡◌, ◌∙◌, ap, sym, Some}
+use Rattle.std.proofs.Common.{◌∙◌, ap, sym, Some}
 use Rattle.tl_journal_text.specs.declared.slot.Slot.{Slot}
 use Rattle.tl_journal.proofs.Live.{keeps_start, keeps_quiet}
 use Rattle.tl_journal.proofs.Resumed.{live_quiet, open_quiet, keeps_through}

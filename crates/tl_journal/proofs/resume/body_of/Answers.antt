@@ -1,7 +1,6 @@
-use Rattle.std.proofs.Common.{◌∙◌, ap, sym, refl, List, ℕ, length}
-use Rattle.tl_model.specs.Volume.{Name, at}
+use Rattle.std.proofs.Common.{◌∙◌, ap, sym, List, ℕ, length}
+use Rattle.tl_model.specs.Volume.{Name}
 use Rattle.tl_journal_text.specs.Stand.{bytes_at}
-use Rattle.tl_journal.specs.Reading.{body_at}
 use Rattle.tl_journal.proofs.Pieces.{same_body_at}
 use Rattle.tl_journal.proofs.Resumed.{size_is, part_of_new}
 use Rattle.tl_journal.proofs.resume.body_of.Goals as goal

@@ -1,4 +1,4 @@
-use Rattle.std.proofs.Common.{◌≡◌, ◌+◌, ◌∙◌, ap, sym, subst, List, ℕ, length, drop, arith, refl}
+use Rattle.std.proofs.Common.{◌+◌, ◌∙◌, subst, List, ℕ, arith}
 use Rattle.tl_model.specs.Pictures.{quiet_start, quiet_join}
 use Rattle.tl_journal_text.proofs.Turns.{reach_start, reach_more, reach_end, reach_fault}
 use Rattle.tl_journal.specs.Items.{IsItem, IsInside}

@@ -3,7 +3,6 @@ use Rattle.std.specs.Prelude.{MatchOption}
 use Rattle.tl_model.specs.Seen.{Moment}
 use Rattle.tl_model.specs.Pictures.{quiet_join, after_quiet}
 use Rattle.tl_journal_text.specs.declared.slot.Slot.{Slot}
-use Rattle.tl_journal_text.specs.Slots.{open_slot}
 use Rattle.tl_journal_text.specs.Records.{Record}
 use Rattle.tl_journal_text.specs.Body.{reading, Whole, Bad}
 use Rattle.tl_journal_text.proofs.Trees.{fault_open}

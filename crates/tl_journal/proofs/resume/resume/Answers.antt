@@ -1,10 +1,7 @@
-use Rattle.std.proofs.Common.{◌≡◌, ◌∙◌, ap, sym, subst, refl, true, Some, None, Option}
-use Rattle.std.specs.FinSet as set
-use Rattle.tl_model.specs.Volume.{Names, Volume}
+use Rattle.std.proofs.Common.{◌∙◌, ap, sym, true}
+use Rattle.tl_model.specs.Volume.{Volume}
 use Rattle.tl_model.specs.Seen.{Moment}
 use Rattle.tl_model.specs.Pictures.{after_sync, after_quiet}
-use Rattle.tl_journal_text.specs.declared.slot.Slot.{Slot}
-use Rattle.tl_journal_text.specs.Slots.{open_slot}
 use Rattle.tl_journal_text.specs.Stand.{stand}
 use Rattle.tl_journal.proofs.Gates.{settles, shut_clean}
 use Rattle.tl_journal.proofs.Resumed.{resumed_start, resumed_more, settled_quiet, open_quiet, stays_stand}
