@@ -1,0 +1,5 @@
+pub mod Acting
+pub mod Faults
+pub mod Items
+pub mod Reading
+pub mod States

@@ -1,0 +1,212 @@
+// The host's calls on each state of a journal.
+ghost use Rattle.std.specs.Prelude.{◌≡◌, ◌≤◌, [], length, take, drop, IfOk, IfSome, is_ok};
+ghost use Rattle.std.specs.Option.{option_map, unwrap_or};
+ghost use Rattle.tl_model.specs.Causes.{HasCause};
+ghost use Rattle.tl_model.specs.Seen.{Told, Since, Quiet, Says};
+ghost use Rattle.tl_model.specs.Volume.{at, IsAfter, IsNext};
+ghost use Rattle.tl_path.specs.Path.{IsPath};
+ghost use Rattle.tl_journal_text.specs.Stand.{SaysFront};
+
+use crate::states::{Applied, Clean, Committed, Staging};
+use tl_host::{Failed, Host};
+use tl_path::PathRef;
+
+impl<H: Host> Applied<H> {
+    /// The length of a file; `None` exactly where the name is absent.
+    pub fn size(&mut self, name: PathRef<'_>) -> Result<Option<u64>, Failed>
+        ensures length { Told H.tells (IfOk result (λ size. size ≡ option_map length (at self.old.present.held name.entry))) }
+        ensures same { Told H.tells (Quiet self.old self.new) }
+        ensures cause { HasCause self.old.faults self.new.faults result }
+    {
+        self.host.size(name)
+    }
+
+    /// Fills as many bytes as the buffer and the file from `from` have, and gives their number; 0 for an absent name.
+    pub fn read(&mut self, name: PathRef<'_>, from: u64, into: &mut [u8]) -> Result<usize, Failed>
+        ensures bound { IfOk result (λ count. count ≤ length into.new) }
+        ensures bytes { Told H.tells (IfOk result (λ count. take count into.new
+            ≡ take (length into.new) (drop from (unwrap_or (at self.old.present.held name.entry) [])))) }
+        ensures count { Told H.tells (IfOk result (λ count. count
+            ≡ length (take (length into.new) (drop from (unwrap_or (at self.old.present.held name.entry) []))))) }
+        ensures same { Told H.tells (Quiet self.old self.new) }
+        ensures cause { HasCause self.old.faults self.new.faults result }
+    {
+        self.host.read(name, from, into)
+    }
+
+    /// Writes the least name after `after` in byte order into `name`, or the least of all, and gives its length; `None`
+    /// exactly where there is none. What it writes is a path after `after`, also where the host doesn't tell.
+    pub fn next_name(
+        &mut self,
+        after: Option<PathRef<'_>>,
+        name: &mut [u8; 1024],
+    ) -> Result<Option<usize>, Failed>
+        ensures next { Told H.tells (IfOk result (λ found.
+            IsNext self.old.present.held after.entry (option_map (λ count. take count name.new) found))) }
+        ensures path { IfOk result (λ found. IfSome found (λ count.
+            (count ≤ 1024) × IsPath (take count name.new) × IsAfter after.entry (take count name.new))) }
+        ensures same { Told H.tells (Quiet self.old self.new) }
+        ensures cause { HasCause self.old.faults self.new.faults result }
+    {
+        self.host.next_name(after, name)
+    }
+
+    /// Says bytes. Where it fails, a front of them is said. Each picture stands for what the volume stands for.
+    pub fn say(&mut self, bytes: &[u8]) -> Result<(), Failed>
+        ensures says { Told H.tells (Says (is_ok result) bytes.now self.old self.new) }
+        ensures pictures { Told H.tells (Since self.old self.new (SaysFront bytes.now self.old)) }
+        ensures cause { HasCause self.old.faults self.new.faults result }
+    {
+        self.host.say(bytes)
+    }
+}
+
+impl<H: Host> Clean<H> {
+    /// The length of a file; `None` exactly where the name is absent.
+    pub fn size(&mut self, name: PathRef<'_>) -> Result<Option<u64>, Failed>
+        ensures length { Told H.tells (IfOk result (λ size. size ≡ option_map length (at self.old.present.held name.entry))) }
+        ensures same { Told H.tells (Quiet self.old self.new) }
+        ensures cause { HasCause self.old.faults self.new.faults result }
+    {
+        self.host.size(name)
+    }
+
+    /// Fills as many bytes as the buffer and the file from `from` have, and gives their number; 0 for an absent name.
+    pub fn read(&mut self, name: PathRef<'_>, from: u64, into: &mut [u8]) -> Result<usize, Failed>
+        ensures bound { IfOk result (λ count. count ≤ length into.new) }
+        ensures bytes { Told H.tells (IfOk result (λ count. take count into.new
+            ≡ take (length into.new) (drop from (unwrap_or (at self.old.present.held name.entry) [])))) }
+        ensures count { Told H.tells (IfOk result (λ count. count
+            ≡ length (take (length into.new) (drop from (unwrap_or (at self.old.present.held name.entry) []))))) }
+        ensures same { Told H.tells (Quiet self.old self.new) }
+        ensures cause { HasCause self.old.faults self.new.faults result }
+    {
+        self.host.read(name, from, into)
+    }
+
+    /// Writes the least name after `after` in byte order into `name`, or the least of all, and gives its length; `None`
+    /// exactly where there is none. What it writes is a path after `after`, also where the host doesn't tell.
+    pub fn next_name(
+        &mut self,
+        after: Option<PathRef<'_>>,
+        name: &mut [u8; 1024],
+    ) -> Result<Option<usize>, Failed>
+        ensures next { Told H.tells (IfOk result (λ found.
+            IsNext self.old.present.held after.entry (option_map (λ count. take count name.new) found))) }
+        ensures path { IfOk result (λ found. IfSome found (λ count.
+            (count ≤ 1024) × IsPath (take count name.new) × IsAfter after.entry (take count name.new))) }
+        ensures same { Told H.tells (Quiet self.old self.new) }
+        ensures cause { HasCause self.old.faults self.new.faults result }
+    {
+        self.host.next_name(after, name)
+    }
+
+    /// Says bytes. Where it fails, a front of them is said. Each picture stands for what the volume stands for.
+    pub fn say(&mut self, bytes: &[u8]) -> Result<(), Failed>
+        ensures says { Told H.tells (Says (is_ok result) bytes.now self.old self.new) }
+        ensures pictures { Told H.tells (Since self.old self.new (SaysFront bytes.now self.old)) }
+        ensures cause { HasCause self.old.faults self.new.faults result }
+    {
+        self.host.say(bytes)
+    }
+}
+
+impl<H: Host> Committed<H> {
+    /// The length of a file; `None` exactly where the name is absent.
+    pub fn size(&mut self, name: PathRef<'_>) -> Result<Option<u64>, Failed>
+        ensures length { Told H.tells (IfOk result (λ size. size ≡ option_map length (at self.old.present.held name.entry))) }
+        ensures same { Told H.tells (Quiet self.old self.new) }
+        ensures cause { HasCause self.old.faults self.new.faults result }
+    {
+        self.host.size(name)
+    }
+
+    /// Fills as many bytes as the buffer and the file from `from` have, and gives their number; 0 for an absent name.
+    pub fn read(&mut self, name: PathRef<'_>, from: u64, into: &mut [u8]) -> Result<usize, Failed>
+        ensures bound { IfOk result (λ count. count ≤ length into.new) }
+        ensures bytes { Told H.tells (IfOk result (λ count. take count into.new
+            ≡ take (length into.new) (drop from (unwrap_or (at self.old.present.held name.entry) [])))) }
+        ensures count { Told H.tells (IfOk result (λ count. count
+            ≡ length (take (length into.new) (drop from (unwrap_or (at self.old.present.held name.entry) []))))) }
+        ensures same { Told H.tells (Quiet self.old self.new) }
+        ensures cause { HasCause self.old.faults self.new.faults result }
+    {
+        self.host.read(name, from, into)
+    }
+
+    /// Writes the least name after `after` in byte order into `name`, or the least of all, and gives its length; `None`
+    /// exactly where there is none. What it writes is a path after `after`, also where the host doesn't tell.
+    pub fn next_name(
+        &mut self,
+        after: Option<PathRef<'_>>,
+        name: &mut [u8; 1024],
+    ) -> Result<Option<usize>, Failed>
+        ensures next { Told H.tells (IfOk result (λ found.
+            IsNext self.old.present.held after.entry (option_map (λ count. take count name.new) found))) }
+        ensures path { IfOk result (λ found. IfSome found (λ count.
+            (count ≤ 1024) × IsPath (take count name.new) × IsAfter after.entry (take count name.new))) }
+        ensures same { Told H.tells (Quiet self.old self.new) }
+        ensures cause { HasCause self.old.faults self.new.faults result }
+    {
+        self.host.next_name(after, name)
+    }
+
+    /// Says bytes. Where it fails, a front of them is said. Each picture stands for what the volume stands for.
+    pub fn say(&mut self, bytes: &[u8]) -> Result<(), Failed>
+        ensures says { Told H.tells (Says (is_ok result) bytes.now self.old self.new) }
+        ensures pictures { Told H.tells (Since self.old self.new (SaysFront bytes.now self.old)) }
+        ensures cause { HasCause self.old.faults self.new.faults result }
+    {
+        self.host.say(bytes)
+    }
+}
+
+impl<H: Host> Staging<H> {
+    /// The length of a file; `None` exactly where the name is absent.
+    pub fn size(&mut self, name: PathRef<'_>) -> Result<Option<u64>, Failed>
+        ensures length { Told H.tells (IfOk result (λ size. size ≡ option_map length (at self.old.present.held name.entry))) }
+        ensures same { Told H.tells (Quiet self.old self.new) }
+        ensures cause { HasCause self.old.faults self.new.faults result }
+    {
+        self.host.size(name)
+    }
+
+    /// Fills as many bytes as the buffer and the file from `from` have, and gives their number; 0 for an absent name.
+    pub fn read(&mut self, name: PathRef<'_>, from: u64, into: &mut [u8]) -> Result<usize, Failed>
+        ensures bound { IfOk result (λ count. count ≤ length into.new) }
+        ensures bytes { Told H.tells (IfOk result (λ count. take count into.new
+            ≡ take (length into.new) (drop from (unwrap_or (at self.old.present.held name.entry) [])))) }
+        ensures count { Told H.tells (IfOk result (λ count. count
+            ≡ length (take (length into.new) (drop from (unwrap_or (at self.old.present.held name.entry) []))))) }
+        ensures same { Told H.tells (Quiet self.old self.new) }
+        ensures cause { HasCause self.old.faults self.new.faults result }
+    {
+        self.host.read(name, from, into)
+    }
+
+    /// Writes the least name after `after` in byte order into `name`, or the least of all, and gives its length; `None`
+    /// exactly where there is none. What it writes is a path after `after`, also where the host doesn't tell.
+    pub fn next_name(
+        &mut self,
+        after: Option<PathRef<'_>>,
+        name: &mut [u8; 1024],
+    ) -> Result<Option<usize>, Failed>
+        ensures next { Told H.tells (IfOk result (λ found.
+            IsNext self.old.present.held after.entry (option_map (λ count. take count name.new) found))) }
+        ensures path { IfOk result (λ found. IfSome found (λ count.
+            (count ≤ 1024) × IsPath (take count name.new) × IsAfter after.entry (take count name.new))) }
+        ensures same { Told H.tells (Quiet self.old self.new) }
+        ensures cause { HasCause self.old.faults self.new.faults result }
+    {
+        self.host.next_name(after, name)
+    }
+
+    /// Says bytes. Where it fails, a front of them is said. Each picture stands for what the volume stands for.
+    pub fn say(&mut self, bytes: &[u8]) -> Result<(), Failed>
+        ensures says { Told H.tells (Says (is_ok result) bytes.now self.old self.new) }
+        ensures pictures { Told H.tells (Since self.old self.new (SaysFront bytes.now self.old)) }
+        ensures cause { HasCause self.old.faults self.new.faults result }
+    {
+        self.host.say(bytes)
+    }
+}

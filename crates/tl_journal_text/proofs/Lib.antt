@@ -1,0 +1,5 @@
+pub mod Targets
+pub mod Trees
+pub mod Acts
+pub mod ReadBack
+pub mod Turns

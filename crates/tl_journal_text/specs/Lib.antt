@@ -1,0 +1,4 @@
+pub mod Body
+pub mod Records
+pub mod Slots
+pub mod Stand

@@ -1,0 +1,12 @@
+//! The text of a journal: the records of a body, how they are written and read, and what a volume stands for.
+#![tactic(auto)]
+
+mod head;
+mod names;
+mod slot;
+#[cfg(test)]
+mod tests;
+
+pub use head::Head;
+pub use names::{is_outside, is_target, target};
+pub use slot::Slot;
