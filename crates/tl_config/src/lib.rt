@@ -1,6 +1,7 @@
 //! The five files that are made from the executes of a database.
 #![tactic(auto)]
 
+mod database;
 mod file;
 mod format;
 mod hyphen;
@@ -10,4 +11,5 @@ mod say;
 #[cfg(test)]
 mod tests;
 
+pub use database::{fmtutil, language_dat, language_def, language_lua, updmap};
 pub use file::{ConfigFile, push_executes, push_lines};

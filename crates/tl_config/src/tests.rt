@@ -73,3 +73,20 @@ fn executes_come_from_texts(rt: HostRuntime) {
     push_executes(rt.alloc(), ConfigFile::Updmap, &mut out, &[text]).expect(&rt, "memory");
     assert!(rt; out.as_slice() == b"Map a.map\n".as_slice());
 }
+
+#[test]
+fn an_empty_database_gives_heads_and_ends(rt: HostRuntime) {
+    let db = tl_db::Db::new(rt.alloc());
+    let text = updmap(rt.alloc(), &db).expect(&rt, "memory");
+    assert!(rt; text.as_slice() == b"# updmap.cfg, written by tlmgr\n".as_slice());
+    let text = fmtutil(rt.alloc(), &db).expect(&rt, "memory");
+    assert!(rt; text.as_slice() == b"# fmtutil.cnf, written by tlmgr\n".as_slice());
+    let text = language_dat(rt.alloc(), &db).expect(&rt, "memory");
+    assert!(rt; text.as_slice() == b"% language.dat, written by tlmgr\n".as_slice());
+    let text = language_def(rt.alloc(), &db).expect(&rt, "memory");
+    assert!(rt; text.as_slice() == b"% language.def, written by tlmgr\n".as_slice());
+    let text = language_lua(rt.alloc(), &db).expect(&rt, "memory");
+    assert!(rt;
+        text.as_slice() == b"-- language.dat.lua, written by tlmgr\nreturn {\n}\n".as_slice()
+    );
+}
