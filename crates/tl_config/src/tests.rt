@@ -90,3 +90,17 @@ fn an_empty_database_gives_heads_and_ends(rt: HostRuntime) {
         text.as_slice() == b"-- language.dat.lua, written by tlmgr\nreturn {\n}\n".as_slice()
     );
 }
+
+#[test]
+fn entries_come_in_name_order(rt: HostRuntime) {
+    let text =
+        b"name b\ncategory Package\nrevision 1\nexecute addMap b.map\nexecute addKanjiMap c.map\n\nname a\ncategory Package\nrevision 1\nexecute addMap a.map\n\n";
+    match tl_db::read_db(rt.alloc(), text) {
+        Ok(db) => {
+            let text = updmap(rt.alloc(), &db).expect(&rt, "memory");
+            let want = b"# updmap.cfg, written by tlmgr\nMap a.map\nMap b.map\nKanjiMap c.map\n";
+            assert!(rt; text.as_slice() == want.as_slice());
+        }
+        Err(_) => panic!(rt; "a database"),
+    }
+}
