@@ -22,6 +22,7 @@ abbrev pub IsNameErrorOf : List ℕ → NameError → Type 0
 IsNameErrorOf text (BadName at) = (is_name text ≡ false) × IsLongestNameFront text at
 IsNameErrorOf text NoNameMemory = is_name text ≡ true
 
+-- the text is no tag; memory is asked for where it is one
 abbrev pub IsTagErrorOf : List ℕ → TagError → Type 0
 IsTagErrorOf text NotTag = is_tag text ≡ false
 IsTagErrorOf text NoTagMemory = is_tag text ≡ true

@@ -13,6 +13,7 @@ category_text ConTeXt = codes "ConTeXt"
 category_text Collection = codes "Collection"
 category_text Scheme = codes "Scheme"
 
+-- each category once
 abbrev pub all_categories : List Category
 all_categories = Package ∷ TLCore ∷ ConTeXt ∷ Collection ∷ Scheme ∷ []
 
@@ -24,5 +25,6 @@ check_word Duplicates = codes "duplicates"
 check_word Executes = codes "executes"
 check_word AllChecks = codes "all"
 
+-- each check once
 abbrev pub all_checks : List Check
 all_checks = Files ∷ Depends ∷ Duplicates ∷ Executes ∷ AllChecks ∷ []

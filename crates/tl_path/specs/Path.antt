@@ -7,6 +7,7 @@ use Rattle.tl_path.specs.declared.fault.PathFault.{PathFault}
 use Rattle.tl_path.specs.Bytes.{is_barred}
 use Rattle.tl_path.specs.Components.{components, is_no_component}
 
+-- a fault of this kind at this place
 abbrev pub fault : PathKind → ℕ → PathFault
 fault kind at = record { at = at; kind = kind }
 
@@ -36,6 +37,7 @@ component_fault_from at count [] = None
 component_fault_from at count (c ∷ cs) = if is_no_component c then Some (fault Component at)
     else (if count == 64 then Some (fault Deep at) else component_fault_from (at + length c + 1) (count + 1) cs)
 
+-- the first fault among a text's components
 abbrev pub component_fault : List ℕ → Option PathFault
 component_fault text = component_fault_from 0 0 (components text)
 

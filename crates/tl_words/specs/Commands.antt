@@ -13,6 +13,7 @@ use Rattle.tl_words.specs.Table.{action_named}
 use Rattle.tl_words.specs.Parts.{Part, given, plain}
 use Rattle.tl_words.specs.Faults.{tag_of, folder_of, plains, has_local}
 
+-- the repository that a value stands for
 abbrev pub repository_of : List ℕ → Repository
 repository_of value = record { tag = tag_of value; folder = folder_of value }
 
@@ -42,10 +43,12 @@ workers_of before [] = before
 workers_of before (plain at word ∷ others) = workers_of before others
 workers_of before (given at option value ∷ others) = workers_of (workers_after before option value) others
 
+-- the action that the first word which is no option asks for
 abbrev pub first_action : List (ℕ × List ℕ) → Option ActionName
 first_action [] = None
 first_action (first ∷ operands) = action_named first.1
 
+-- an action with its options
 abbrev pub action_of : List Part → ActionName → Action
 action_of all DumpTlpdb = actions.DumpTlpdb (has_local all)
 

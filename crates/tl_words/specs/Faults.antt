@@ -13,6 +13,7 @@ use Rattle.tl_words.specs.declared.table.ActionName.TheVariants.{DumpTlpdb}
 use Rattle.tl_words.specs.Table.{takes_value, action_named, goes_with}
 use Rattle.tl_words.specs.Parts.{Part, given, plain, parts}
 
+-- a fault of this kind at this place
 abbrev pub fault : WordKind → ℕ → Fault
 fault kind at = record { at = at; kind = kind }
 
@@ -87,6 +88,7 @@ IsFirstTwo [] first second = (first ≡ None) × (second ≡ None)
 IsFirstTwo (a ∷ []) first second = (first ≡ Some a) × (second ≡ None)
 IsFirstTwo (a ∷ b ∷ others) first second = (first ≡ Some a) × (second ≡ Some b)
 
+-- whether an option doesn't go with an action
 abbrev pub is_foreign : ActionName → Option OptionName → Bool
 is_foreign action None = true
 is_foreign action (Some option) = not (goes_with action option)
@@ -98,6 +100,7 @@ foreign_fault action (plain at word ∷ others) = foreign_fault action others
 foreign_fault action (given at option value ∷ others) =
     if is_foreign action option then Some (fault kinds.Option at) else foreign_fault action others
 
+-- whether an option is the flag `local`
 abbrev pub is_local : Option OptionName → Bool
 is_local (Some Local) = true
 is_local _ = false
@@ -143,6 +146,7 @@ abbrev pub program_parts : List (List ℕ) → List Part
 program_parts [] = []
 program_parts (root ∷ words) = parts false None false 1 words
 
+-- the first fault of the program's words: there is no root, or one of the command
 abbrev pub words_fault : List (List ℕ) → Option Fault
 words_fault [] = Some (fault kinds.Root 0)
 words_fault (root ∷ words) = command_fault (root ∷ words) (program_parts (root ∷ words))
@@ -151,5 +155,6 @@ words_fault (root ∷ words) = command_fault (root ∷ words) (program_parts (ro
 abbrev pub session_parts : List (List ℕ) → List Part
 session_parts words = parts true None false 0 words
 
+-- the first fault of the words of a session's line
 abbrev pub session_fault : List (List ℕ) → Option Fault
 session_fault words = command_fault words (session_parts words)

@@ -11,6 +11,7 @@ use Rattle.tl_words.specs.Parts.{Part, given, plain, parts}
 abbrev pub texts : List (Vec ℕ Global) → List (List ℕ)
 texts words = map (λ word. word.items) words
 
+-- a word with its place
 abbrev pub placed_of : Placed → ℕ × List ℕ
 placed_of placed = (placed.at, placed.word.now)
 

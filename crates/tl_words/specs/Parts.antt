@@ -18,6 +18,7 @@ is_option_word word = slice_index word 0 == 45 && not (nat_le 48 (slice_index wo
 abbrev pub option_body : List ℕ → List ℕ
 option_body word = drop (if slice_index word 1 == 45 then 2 else 1) word
 
+-- what stands before the first '=' of an option's word, without its dashes
 abbrev pub option_name : List ℕ → List ℕ
 option_name word = before_first (λ b. b == 61) (option_body word)
 
@@ -26,6 +27,7 @@ abbrev pub option_value : List ℕ → Option (List ℕ)
 option_value word = if nat_lt (position_or_len (λ b. b == 61) (option_body word)) (length (option_body word))
     then Some (after_first (λ b. b == 61) (option_body word)) else None
 
+-- whether an option is known and takes a value
 abbrev pub is_valued : Option OptionName → Bool
 is_valued None = false
 is_valued (Some option) = takes_value option
