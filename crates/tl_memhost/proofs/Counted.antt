@@ -15,7 +15,7 @@ counted_recorded m during after counted = record {
   each = (counted.least, counted.each);
 }
 
-length-many : (n : ℕ) (s : Stretch) → length (many n s) ≡ n
+pub length-many : (n : ℕ) (s : Stretch) → length (many n s) ≡ n
 length-many zero s = refl
 length-many (suc n) s = simp length-append (let h : length (many n s) ≡ n = length-many n s in omega arith)
 

@@ -3,7 +3,7 @@ ghost use Rattle.std.specs.Prelude.{◌≡◌, ◌++◌, [], length, take, OnOk,
 ghost use Rattle.tl_memhost.specs.Held.{IsFirstFrom};
 ghost use Rattle.std.specs.Option.{option_map, unwrap_or};
 ghost use Rattle.std.specs.FinMap as map;
-ghost use Rattle.tl_model.specs.Volume.{at, IsNext};
+ghost use Rattle.tl_model.specs.Volume.{at, SameBut, IsNext};
 ghost use Rattle.tl_path.specs.Path.{IsPath};
 
 use crate::record::Did;
@@ -135,6 +135,24 @@ impl Files {
         let bytes = Vec::from_slice(alloc, bytes)?;
         self.insert(name, bytes)?;
         Ok(())
+    }
+
+    // Makes a name hold a copy of these bytes, or nothing.
+    pub(crate) fn give(&mut self, alloc: Global, name: &[u8], bytes: Option<&[u8]>) -> Result<(), AllocError>
+        requires { IsPath name.now }
+        ensures here { OnOk result (at self.new name.now ≡ option_map (λ b. b.now) bytes.entry) }
+        ensures apart { OnOk result (SameBut name.now self.old self.new) }
+    {
+        match bytes {
+            Some(bytes) => {
+                self.set(alloc, name, bytes)?;
+                Ok(())
+            }
+            None => {
+                let _ = self.remove(name);
+                Ok(())
+            }
+        }
     }
 
     // Goes back over a call.
