@@ -30,7 +30,7 @@ pub back_step : (call : ℕ) (items : List Entry) (held : Volume) (said : List �
 back_step call items held said n v s e far is le = record {
   within = omega (arith, far.within);
   same = far.same ∙ ap (λ (es : List Entry). back call es v s) (reverse_take items n e (omega (arith, far.within)) is)
-    ∙ ap (λ b. cond b (back call (reverse (take n items)) (unheld e.did v) (unsaid e.did s)) (standing (e ∷ reverse (take n items)) v s)) le;
+      ∙ ap (λ b. cond b (back call (reverse (take n items)) (unheld e.did v) (unsaid e.did s)) (standing (e ∷ reverse (take n items)) v s)) le;
 }
 
 pub back_stop : (call : ℕ) (items : List Entry) (held : Volume) (said : List ℕ) (n : ℕ) (v : Volume) (s : List ℕ) (e : Entry)

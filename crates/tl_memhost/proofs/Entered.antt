@@ -27,19 +27,29 @@ after did held said s = record { held = held; touched = touches did s.touched; s
 pub entered : (items : List Entry) (did : Did) (old new : Volume) (before said : List ℕ) (rest calls short : ℕ) (failing : List ℕ) (syncs faults : ℕ)
     → unheld did new ≡ old → unsaid did said ≡ before
     → memory (items ++ entry calls rest did ∷ []) new said 0 (one_more calls) short failing syncs faults
-      ≡ recorded (memory items old before rest calls short failing syncs faults) (during did said (standing (reverse items) old before)) (after did new said (standing (reverse items) old before))
+    ≡ recorded (memory items old before rest calls short failing syncs faults) (during did said (standing (reverse items) old before)) (after did new said (standing (reverse items) old before))
 entered items did old new before said rest calls short failing syncs faults held told =
     ap (λ (es : List Entry). record { steps = steps_of es new said; rest = 0; present = standing es new said; calls = one_more calls; short = short; failing = failing; syncs = syncs; faults = faults }) (reverse-append items (entry calls rest did ∷ []))
     ∙ ap (λ (v : Volume). record {
-        steps = step_of (entry calls rest did) said (standing (reverse items) v (unsaid did said)) ∷ steps_of (reverse items) v (unsaid did said);
-        rest = 0;
-        present = record { held = new; touched = touches did (touched_of (reverse items)); said = said; settled = settles did (settled_of (reverse items) v) v };
-        calls = one_more calls; short = short; failing = failing; syncs = syncs; faults = faults }) held
+      steps = step_of (entry calls rest did) said (standing (reverse items) v (unsaid did said)) ∷ steps_of (reverse items) v (unsaid did said);
+      rest = 0;
+      present = record { held = new; touched = touches did (touched_of (reverse items)); said = said; settled = settles did (settled_of (reverse items) v) v };
+      calls = one_more calls;
+      short = short;
+      failing = failing;
+      syncs = syncs;
+      faults = faults;
+    }) held
     ∙ ap (λ (s : List ℕ). record {
-        steps = step_of (entry calls rest did) said (standing (reverse items) old s) ∷ steps_of (reverse items) old s;
-        rest = 0;
-        present = record { held = new; touched = touches did (touched_of (reverse items)); said = said; settled = settles did (settled_of (reverse items) old) old };
-        calls = one_more calls; short = short; failing = failing; syncs = syncs; faults = faults }) told
+      steps = step_of (entry calls rest did) said (standing (reverse items) old s) ∷ steps_of (reverse items) old s;
+      rest = 0;
+      present = record { held = new; touched = touches did (touched_of (reverse items)); said = said; settled = settles did (settled_of (reverse items) old) old };
+      calls = one_more calls;
+      short = short;
+      failing = failing;
+      syncs = syncs;
+      faults = faults;
+    }) told
 
 pub counted_entered : (items : List Entry) (did : Did) (old new : Volume) (before said : List ℕ) (rest calls short : ℕ) (failing : List ℕ) (syncs faults : ℕ)
     → unheld did new ≡ old → unsaid did said ≡ before → IsCounted (memory items old before rest calls short failing syncs faults)
@@ -88,8 +98,8 @@ pub grown_entered : (items items' : List Entry) (own : Name) (bytes : List ℕ) 
     → memory items' new said 0 calls' short failing syncs faults ≡ changed name new (memory items old said rest calls short failing syncs faults)
 grown_entered items items' own bytes n old new said rest calls calls' short failing syncs faults name named some is grown list count =
     let back : cut own n (at new own) new ≡ old =
-      subst (λ (k : Name). cut k n (at new k) new ≡ old) (sym named)
-      (subst (λ (v : Volume). cut name n (at v name) v ≡ old) (sym grown) (cut_back old name bytes n some is)) in
+    subst (λ (k : Name). cut k n (at new k) new ≡ old) (sym named)
+    (subst (λ (v : Volume). cut name n (at v name) v ≡ old) (sym grown) (cut_back old name bytes n some is)) in
     ap (λ (es : List Entry). memory es new said 0 calls' short failing syncs faults) list
     ∙ ap (λ (k : ℕ). memory (items ++ entry calls rest (Grown own n) ∷ []) new said 0 k short failing syncs faults) count
     ∙ entered items (Grown own n) old new said said rest calls short failing syncs faults back refl

@@ -204,11 +204,14 @@ first_none start m r is range other from = by_keys m.entries other (λ k same. r
 pub first_some : (start : Bound (Bor Bytes)) (m : BTreeMap Bytes Bytes) (r rest : List (Bytes × Bytes)) (e : Bytes × Bytes) (name : Name) → r ≡ e ∷ rest → name ≡ e.0.items → IsRangeOf order (on_keys start) Unbounded m r → IsFirstFrom start m.entries (Some name)
 first_some start m r rest e name is same range =
     let known : IsRangeOf order (on_keys start) Unbounded m (e ∷ rest) = subst (λ (l : List (Bytes × Bytes)). IsRangeOf order (on_keys start) Unbounded m l) is range in
-    let here : at (volume_of m.entries) name ≡ Some e.1.items = at-volume_of m.entries name ∙ ap contents (subst (λ (n : Name). lookup (is_at (beside n)) m.entries ≡ Some e.1) (sym same) known.1.1) in
-    (ap is_some here, started start e.0 name same known.1.0.0, λ other from before. by_keys m.entries other (λ k is. elim (some_or_none (lookup (is_at (beside k.items)) m.entries)) [
-      | inl none ↦ none
-      | inr some ↦ absurd (not_below other name before (subst (λ (n : Name). is_gt (slice_cmp nat_cmp n other) ≡ false) (sym same) (subst (λ (n : Name). is_gt (slice_cmp nat_cmp e.0.items n) ≡ false) (sym is) (known.2 k (starts start k other is from, tt) some))))
-    ]))
+    let here : at (volume_of m.entries) name ≡ Some e.1.items = at-volume_of m.entries name ∙ ap contents (subst (λ (n : Name). lookup (is_at (beside n)) m.entries ≡ Some e.1) (sym same) known.1.1) in (
+      ap is_some here,
+      started start e.0 name same known.1.0.0,
+      λ other from before. by_keys m.entries other (λ k is. elim (some_or_none (lookup (is_at (beside k.items)) m.entries)) [
+        | inl none ↦ none
+        | inr some ↦ absurd (not_below other name before (subst (λ (n : Name). is_gt (slice_cmp nat_cmp n other) ≡ false) (sym same) (subst (λ (n : Name). is_gt (slice_cmp nat_cmp e.0.items n) ≡ false) (sym is) (known.2 k (starts start k other is from, tt) some))))
+      ]),
+    )
 
 -- the name that is found is a path
 pub named : (start : Bound (Bor Bytes)) (es : List (Bytes × Bytes)) (found : Option (Bor (List ℕ))) → IsFirstFrom start es (option_map (λ (n : Bor (List ℕ)). n.now) found) → ArePaths es → IfSome found (λ n. IsPath n.now)
@@ -223,6 +226,7 @@ copied (e ∷ es) [] all = absurd all
 copied (e ∷ es) (f ∷ fs) all =
     let rest : (volume_of fs ≡ volume_of es) × (ArePaths es → ArePaths fs) = copied es fs all.1 in
     let name : f.0.items ≡ e.0.items = each_same e.0.items f.0.items all.0.0.0 in
-    let bytes : f.1.items ≡ e.1.items = each_same e.1.items f.1.items all.0.1.0 in
-    ( ap (λ (v : Volume). map.insert v f.0.items f.1.items) rest.0 ∙ ap (λ (n : Name). map.insert (volume_of es) n f.1.items) name ∙ ap (map.insert (volume_of es) e.0.items) bytes
-    , λ paths. (subst IsPath (sym name) paths.0, rest.1 paths.1) )
+    let bytes : f.1.items ≡ e.1.items = each_same e.1.items f.1.items all.0.1.0 in (
+      ap (λ (v : Volume). map.insert v f.0.items f.1.items) rest.0 ∙ ap (λ (n : Name). map.insert (volume_of es) n f.1.items) name ∙ ap (map.insert (volume_of es) e.0.items) bytes,
+      λ paths. (subst IsPath (sym name) paths.0, rest.1 paths.1),
+    )

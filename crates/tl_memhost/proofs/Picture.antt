@@ -55,12 +55,12 @@ reaches (e ∷ es) held words rest x tail call next short t image said picture h
           let up : call ≤ e.call = leb-true call e.call reached in
           let old : Standing = standing es (unheld e.did held) (unsaid e.did words) in
           let before_it : IsPicture (at_rest (moment_of (before call (steps_of es (unheld e.did held) (unsaid e.did words)) old))) image said =
-            subst (λ (b : Bool). IsPicture (at_rest (moment_of (cond b (before call (steps_of es (unheld e.did held) (unsaid e.did words)) old) (standing (e ∷ es) held words)))) image said) reached picture in
+          subst (λ (b : Bool). IsPicture (at_rest (moment_of (cond b (before call (steps_of es (unheld e.did held) (unsaid e.did words)) old) (standing (e ∷ es) held words)))) image said) reached picture in
           let found = reaches es (unheld e.did held) (unsaid e.did words) e.rest (during e.did words old) (many rest (at_rest (moment_of (standing (e ∷ es) held words))) ++ x ∷ tail) call e.call short t image said before_it (within e.did words old image said) up each.0 each.1 low in
           (found.0, subst (λ (l : List Stretch). Contains (drop t l) found.0) (regroup (stretches (steps_of es (unheld e.did held) (unsaid e.did words)) ++ many e.rest (at_rest (moment_of old))) (during e.did words old) (many rest (at_rest (moment_of (standing (e ∷ es) held words)))) (x ∷ tail)) found.1, found.2)
       | inr not_yet ↦
           let at_it : IsPicture (at_rest (moment_of (standing (e ∷ es) held words))) image said =
-            subst (λ (b : Bool). IsPicture (at_rest (moment_of (cond b (before call (steps_of es (unheld e.did held) (unsaid e.did words)) (standing es (unheld e.did held) (unsaid e.did words))) (standing (e ∷ es) held words)))) image said) not_yet picture in
+          subst (λ (b : Bool). IsPicture (at_rest (moment_of (cond b (before call (steps_of es (unheld e.did held) (unsaid e.did words)) (standing es (unheld e.did held) (unsaid e.did words))) (standing (e ∷ es) held words)))) image said) not_yet picture in
           let h : length (stretches (steps_of (e ∷ es) held words)) ≡ moments (steps_of (e ∷ es) held words) = length-stretches (steps_of (e ∷ es) held words) in
           let k : length (many rest (at_rest (moment_of (standing (e ∷ es) held words)))) ≡ rest = length-many rest _ in
           let whole : length (stretches (steps_of (e ∷ es) held words) ++ many rest (at_rest (moment_of (standing (e ∷ es) held words)))) ≡ moments (steps_of (e ∷ es) held words) + rest = length-append (stretches (steps_of (e ∷ es) held words)) _ ∙ ap (λ (n : ℕ). n + length (many rest (at_rest (moment_of (standing (e ∷ es) held words))))) h ∙ ap (λ (n : ℕ). moments (steps_of (e ∷ es) held words) + n) k in
@@ -69,6 +69,7 @@ reaches (e ∷ es) held words rest x tail call next short t image said picture h
   where
     below : (t call next short most have : ℕ) → t + short ≤ call → call ≤ next → next ≤ most + short → have ≡ most → t ≤ have
     below t call next short most have low le counted is = omega arith
+
     regroup : (a : List Stretch) (d : Stretch) (b c : List Stretch) → a ++ d ∷ (b ++ c) ≡ ((a ++ d ∷ []) ++ b) ++ c
     regroup a d b c = sym (append_assoc (a ++ d ∷ []) b c ∙ append_assoc a (d ∷ []) (b ++ c))
 

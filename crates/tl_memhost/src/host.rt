@@ -258,7 +258,12 @@ impl MemHost {
         let name = Named::of(self.alloc, name)?;
         self.record.reserve(1)?;
         let before = self.files.insert(key, Vec::new(self.alloc))?;
-        enter(&mut self.record, self.calls, self.rest, Did::Put(name, before));
+        enter(
+            &mut self.record,
+            self.calls,
+            self.rest,
+            Did::Put(name, before),
+        );
         self.rest = 0;
         self.calls = self.calls.saturating_add(1);
         Ok(())
@@ -273,7 +278,12 @@ impl MemHost {
         let gone = Named::of(self.alloc, name)?;
         self.record.reserve(1)?;
         let before = self.files.remove(name);
-        enter(&mut self.record, self.calls, self.rest, Did::Put(gone, before));
+        enter(
+            &mut self.record,
+            self.calls,
+            self.rest,
+            Did::Put(gone, before),
+        );
         self.rest = 0;
         self.calls = self.calls.saturating_add(1);
         Ok(())
@@ -290,7 +300,12 @@ impl MemHost {
         let grown = Named::of(self.alloc, name)?;
         self.record.reserve(1)?;
         let length = self.files.append(name, bytes)?;
-        enter(&mut self.record, self.calls, self.rest, Did::Grown(grown, length));
+        enter(
+            &mut self.record,
+            self.calls,
+            self.rest,
+            Did::Grown(grown, length),
+        );
         self.rest = 0;
         self.calls = self.calls.saturating_add(1);
         Ok(())

@@ -35,11 +35,16 @@ pub enum StopError {
 }
 
 // Goes back over the newest entries, to what was held before the call of a number, and gives how many entries are left.
-pub(crate) fn go_back(alloc: Global, record: &[Entry], call: u64, files: &mut Files) -> Result<usize, AllocError>
+pub(crate) fn go_back(
+    alloc: Global,
+    record: &[Entry],
+    call: u64,
+    files: &mut Files,
+) -> Result<usize, AllocError>
     ensures within { IfOk result (λ count. count ≤ length record.now) }
     ensures back { IfOk result (λ count. (said : List ℕ) → (words : List ℕ)
         × (before call (steps_of (reverse record.now) files.old said) (standing (reverse record.now) files.old said)
-            ≡ standing (reverse (take count record.now)) files.new words)) }
+        ≡ standing (reverse (take count record.now)) files.new words)) }
 {
     let mut count = record.len();
     while count > 0 {
@@ -54,7 +59,11 @@ pub(crate) fn go_back(alloc: Global, record: &[Entry], call: u64, files: &mut Fi
 }
 
 // Goes back to what was held at the last sync that succeeded.
-pub(crate) fn settle_back(alloc: Global, record: &[Entry], files: &mut Files) -> Result<(), AllocError>
+pub(crate) fn settle_back(
+    alloc: Global,
+    record: &[Entry],
+    files: &mut Files,
+) -> Result<(), AllocError>
     ensures { OnOk result (files.new ≡ settled_of (reverse record.now) files.old) }
 {
     let mut count = record.len();
@@ -70,7 +79,12 @@ pub(crate) fn settle_back(alloc: Global, record: &[Entry], files: &mut Files) ->
 }
 
 // Makes each name that was touched since the last sync that succeeded hold these bytes, or nothing.
-fn fill_touched(alloc: Global, record: &[Entry], bytes: Option<&[u8]>, files: &mut Files) -> Result<(), AllocError>
+fn fill_touched(
+    alloc: Global,
+    record: &[Entry],
+    bytes: Option<&[u8]>,
+    files: &mut Files,
+) -> Result<(), AllocError>
     ensures { OnOk result ((name : Name) → at files.new name
         ≡ (if set.contains (touched_of (reverse record.now)) name then option_map (λ b. b.now) bytes.entry else at files.old name)) }
 {
@@ -87,7 +101,12 @@ fn fill_touched(alloc: Global, record: &[Entry], bytes: Option<&[u8]>, files: &m
 }
 
 // Makes the name that a call touched hold these bytes, or nothing.
-fn give_named(alloc: Global, did: &Did, bytes: Option<&[u8]>, files: &mut Files) -> Result<(), AllocError>
+fn give_named(
+    alloc: Global,
+    did: &Did,
+    bytes: Option<&[u8]>,
+    files: &mut Files,
+) -> Result<(), AllocError>
     ensures { OnOk result (Gives (named did.now) (option_map (λ b. b.now) bytes.entry) files.old files.new) }
 {
     match named(did) {
@@ -116,7 +135,12 @@ fn is_sync(did: &Did) -> bool
 }
 
 // Leaves at each touched name what is chosen.
-pub(crate) fn leave(alloc: Global, record: &[Entry], choice: &Choice, files: &mut Files) -> Result<(), AllocError>
+pub(crate) fn leave(
+    alloc: Global,
+    record: &[Entry],
+    choice: &Choice,
+    files: &mut Files,
+) -> Result<(), AllocError>
     ensures { OnOk result ((words : List ℕ) (name : Name)
         → at files.new name ≡ left choice.now (standing (reverse record.now) files.old words) name) }
 {

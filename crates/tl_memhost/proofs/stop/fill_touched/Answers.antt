@@ -20,8 +20,8 @@ loop-count-preserved c =
     record {
       within = omega (arith, c.loop-count.invariant.within);
       same = λ name. c.loop-count.invariant.same name
-        ∙ ap (λ (n : ℕ). cond (set.contains (touched_of (reverse (take n c.args.record.now))) name) b (at c.loop-count.files name)) some
-        ∙ fill_back c.args.record.now (c.loop-count.count - 1) c.index-record-count.result b c.loop-count.files c.give_named.new.files lt c.index-record-count.is sync c.in_ok-give_named.ensures name;
+          ∙ ap (λ (n : ℕ). cond (set.contains (touched_of (reverse (take n c.args.record.now))) name) b (at c.loop-count.files name)) some
+          ∙ fill_back c.args.record.now (c.loop-count.count - 1) c.index-record-count.result b c.loop-count.files c.give_named.new.files lt c.index-record-count.is sync c.in_ok-give_named.ensures name;
     }
 
 pub returns-after-loop-count : goal.returns-after-loop-count
@@ -29,8 +29,8 @@ returns-after-loop-count c = λ name.
     let none : c.loop-count.count ≡ 0 = omega arith in
     let b = given c.args.bytes in
     sym (c.loop-count.invariant.same name
-      ∙ ap (λ (n : ℕ). cond (set.contains (touched_of (reverse (take n c.args.record.now))) name) b (at c.loop-count.files name)) none
-      ∙ fill_end c.args.record.now b c.loop-count.files name)
+    ∙ ap (λ (n : ℕ). cond (set.contains (touched_of (reverse (take n c.args.record.now))) name) b (at c.loop-count.files name)) none
+    ∙ fill_end c.args.record.now b c.loop-count.files name)
 
 pub returns-then-is_sync : goal.returns-then-is_sync
 returns-then-is_sync c = λ name.
@@ -39,5 +39,5 @@ returns-then-is_sync c = λ name.
     let b = given c.args.bytes in
     let sync : is_sync c.index-record-count.result.did ≡ true = sym c.is_sync.ensures ∙ c.if-is_sync.true in
     sym (c.loop-count.invariant.same name
-      ∙ ap (λ (n : ℕ). cond (set.contains (touched_of (reverse (take n c.args.record.now))) name) b (at c.loop-count.files name)) some
-      ∙ fill_stop c.args.record.now (c.loop-count.count - 1) c.index-record-count.result b c.loop-count.files lt c.index-record-count.is sync name)
+    ∙ ap (λ (n : ℕ). cond (set.contains (touched_of (reverse (take n c.args.record.now))) name) b (at c.loop-count.files name)) some
+    ∙ fill_stop c.args.record.now (c.loop-count.count - 1) c.index-record-count.result b c.loop-count.files lt c.index-record-count.is sync name)

@@ -12,5 +12,5 @@ abbrev pub invariant-loop-count : goal.invariant-loop-count
 invariant-loop-count l = record {
   within : l.count ≤ length l.«record»;
   same : (name : Name) → cond (set.contains (touched_of (reverse l.«record»)) name) (option_map (λ b. b.now) l.bytes) (at l.fn.files name)
-    ≡ cond (set.contains (touched_of (reverse (take l.count l.«record»))) name) (option_map (λ b. b.now) l.bytes) (at l.files name);
+      ≡ cond (set.contains (touched_of (reverse (take l.count l.«record»))) name) (option_map (λ b. b.now) l.bytes) (at l.files name);
 }
