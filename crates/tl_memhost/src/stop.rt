@@ -13,7 +13,7 @@ use crate::record::{Did, Entry, Named};
 use std::alloc::{AllocError, Global};
 
 /// What a stop leaves at each touched name.
-#[derive(Drop)]
+#[derive(Debug, Drop)]
 pub enum Choice {
     /// What a read gave.
     Kept,
