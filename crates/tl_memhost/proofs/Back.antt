@@ -1,9 +1,9 @@
 -- Back over the record, from the newest call on, to the call of a number.
-use Rattle.std.proofs.Common.{◌≡◌, ℕ, suc, ◌+◌, ◌<◌, ◌≤◌, nat_le, Bool, true, false, cond, List, [], ◌∷◌, ◌++◌, length, take, reverse, get_or, refl, sym, ◌∙◌, ap, subst, arith}
+use Rattle.std.proofs.Common.{◌≡◌, ℕ, suc, ◌<◌, ◌≤◌, nat_le, true, false, cond, List, [], ◌∷◌, length, take, reverse, get_or, sym, ◌∙◌, ap, arith}
 use Rattle.std.proofs.lemmas.List.{reverse-append}
 use Rattle.std.proofs.Math.Seq.{take-suc, take-length}
 use Rattle.tl_model.specs.Volume.{Volume}
-use Rattle.tl_memhost.specs.Memory.{Standing, Step, before}
+use Rattle.tl_memhost.specs.Memory.{Standing, before}
 use Rattle.tl_memhost.specs.Record.{unheld, unsaid, standing, steps_of}
 use Rattle.tl_memhost.specs.declared.record.Entry.{Entry}
 

@@ -1,6 +1,5 @@
 -- The counts of calls and of moments go on together.
-use Rattle.std.proofs.Common.{◌≡◌, ℕ, zero, suc, length, refl, ◌++◌, length-append, ◌+◌, ◌-◌, ◌^◌, ◌<◌, ◌≤◌, List, [], ◌∷◌, arith}
-use Rattle.tl_model.specs.Causes.{one_more}
+use Rattle.std.proofs.Common.{◌≡◌, ℕ, zero, suc, length, refl, length-append, ◌+◌, ◌-◌, ◌^◌, ◌<◌, ◌≤◌, List, [], ◌∷◌, arith}
 use Rattle.tl_model.specs.Seen.{Stretch, at_rest, moment}
 use Rattle.tl_memhost.specs.Memory.{Standing, Step, Memory, moments, AreCounted, IsCounted, recorded, many, stretches, moment_of, seen}
 

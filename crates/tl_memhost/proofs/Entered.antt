@@ -1,5 +1,5 @@
 -- A record with one entry more says that one call more was recorded.
-use Rattle.std.proofs.Common.{◌≡◌, ◌≢◌, ◌⊎◌, inl, inr, ℕ, List, [], ◌∷◌, ◌++◌, length, take, reverse, Option, Some, None, Vec, refl, sym, ◌∙◌, ap, subst}
+use Rattle.std.proofs.Common.{◌≡◌, inl, inr, ℕ, List, [], ◌∷◌, ◌++◌, length, take, reverse, Option, Some, None, refl, sym, ◌∙◌, ap, subst}
 use Rattle.std.specs.Option.{unwrap_or, IsSome}
 use Rattle.std.specs.FinMap as map
 use Rattle.std.proofs.lemmas.Bool.{true≢false}
@@ -8,7 +8,7 @@ use Rattle.std.proofs.Math.Seq.{take-append_seam}
 use Rattle.tl_model.specs.Causes.{one_more}
 use Rattle.tl_model.specs.Volume.{Name, Volume, SameBut, at, cases_name, same_volume, at-insert_here, at-insert_apart, at-remove_here, at-remove_apart}
 use Rattle.tl_memhost.specs.Held.{Bytes}
-use Rattle.tl_memhost.specs.Memory.{Standing, Step, Memory, IsCounted, moment_of, recorded, changed}
+use Rattle.tl_memhost.specs.Memory.{Standing, Memory, IsCounted, recorded, changed}
 use Rattle.tl_memhost.specs.Record.{put, cut, unheld, unsaid, touches, settles, touched_of, settled_of, standing, during, step_of, steps_of, memory}
 use Rattle.tl_memhost.specs.declared.record.Did.{Did}
 use Rattle.tl_memhost.specs.declared.record.Did.TheVariants.{Put, Grown}

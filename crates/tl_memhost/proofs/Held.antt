@@ -1,13 +1,13 @@
 -- What a look-up and a change of an ordered map of files are on its volume.
-use Rattle.std.proofs.Common.{◌≡◌, ◌≢◌, ℕ, ◌⊎◌, inl, inr, Bool, true, false, cond, List, [], ◌∷◌, ◌++◌, take, Option, Some, None, Vec, refl, sym, ◌∙◌, ap, subst}
-use Rattle.std.specs.Option.{option_map, is_some, IsSome, IfSome, unwrap_or}
+use Rattle.std.proofs.Common.{◌≡◌, ◌≢◌, ℕ, ◌⊎◌, inl, inr, Bool, true, false, cond, List, [], ◌∷◌, Option, Some, None, refl, sym, ◌∙◌, ap, subst}
+use Rattle.std.specs.Option.{option_map, is_some, IsSome, IfSome}
 use Rattle.std.specs.Ordering.{nat_cmp, is_eq, is_gt, match_ordering, ordering_reverse}
 use Rattle.std.specs.Borrow.{Bor}
 use Rattle.std.specs.declared.ops.Bound.{Bound}
 use Rattle.std.specs.declared.ops.Bound.TheVariants.{Included, Excluded, Unbounded}
 use Rattle.std.specs.Range.Bound.{bound_map}
 use Rattle.std.specs.BTreeMap.{BTreeMap}
-use Rattle.std.specs.BTreeMap.Range.{IsRangeOf, IsInRange, IsFromStart, IsEntryInRange}
+use Rattle.std.specs.BTreeMap.Range.{IsRangeOf, IsFromStart}
 use Rattle.std.specs.declared.cmp.Ordering.{Ordering}
 use Rattle.std.specs.declared.cmp.Ordering.TheVariants.{Less, Equal, Greater}
 use Rattle.std.specs.Cmp.Lexicographic.{slice_cmp, nat_list_cmp_total}
@@ -17,7 +17,7 @@ use Rattle.std.specs.List.{AllZip, each_same}
 use Rattle.std.specs.Vec.{vec_len}
 use Rattle.std.specs.Map.{lookup, set_value, remove_entry}
 use Rattle.std.specs.BTreeMap.{is_at, insert_entry}
-use Rattle.std.proofs.lemmas.Bool.{cases_Bool, true≢false}
+use Rattle.std.proofs.lemmas.Bool.{true≢false}
 use Rattle.tl_model.specs.Volume.{Name, Volume, at, IsBefore, same_name, same_name-is, same_name-refl, same_name-apart, cases_name, same_volume, at-insert_here, at-insert_apart, at-remove_here, at-remove_apart}
 use Rattle.tl_path.specs.Path.{IsPath}
 use Rattle.tl_memhost.specs.Held.{Bytes, volume_of, ArePaths, IsFrom, IsFirstFrom}

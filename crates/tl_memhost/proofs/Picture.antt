@@ -1,13 +1,13 @@
 -- What a stop leaves is a picture that could be left since any moment before the call.
-use Rattle.std.proofs.Common.{◌≡◌, ◌≢◌, ◌⊎◌, inl, inr, ℕ, zero, suc, ◌+◌, ◌<◌, ◌≤◌, Bool, true, false, cond, nat_le, List, [], ◌∷◌, ◌++◌, length, take, drop, reverse, slice_index_or, Option, Some, None, refl, sym, ◌∙◌, ap, subst, arith, append_assoc, length-append}
+use Rattle.std.proofs.Common.{◌≡◌, inl, inr, ℕ, zero, suc, ◌+◌, ◌<◌, ◌≤◌, Bool, false, cond, nat_le, List, [], ◌∷◌, ◌++◌, length, take, drop, reverse, refl, sym, ◌∙◌, ap, subst, arith, append_assoc, length-append}
 use Rattle.std.specs.List.{Contains}
 use Rattle.std.specs.FinSet as set
-use Rattle.std.proofs.lemmas.Bool.{true≢false, cases_Bool, leb-true}
+use Rattle.std.proofs.lemmas.Bool.{cases_Bool, leb-true}
 use Rattle.std.proofs.lemmas.List.{append-nil}
-use Rattle.tl_model.specs.Volume.{Name, Volume, Names, at, contains-insert_none}
+use Rattle.tl_model.specs.Volume.{Name, Volume, at, contains-insert_none}
 use Rattle.tl_model.specs.Seen.{Stretch, IsPicture, Could, at_rest, changing, saying}
-use Rattle.tl_memhost.specs.Memory.{Standing, Step, Memory, moment_of, many, stretches, seen, before, before_call, moments, AreCounted, IsCounted}
-use Rattle.tl_memhost.specs.Record.{unheld, unsaid, standing, during, step_of, steps_of, memory}
+use Rattle.tl_memhost.specs.Memory.{Standing, Memory, moment_of, many, stretches, seen, before, before_call, moments, AreCounted, IsCounted}
+use Rattle.tl_memhost.specs.Record.{unheld, unsaid, standing, during, steps_of, memory}
 use Rattle.tl_memhost.specs.declared.record.Did.{Did}
 use Rattle.tl_memhost.specs.declared.record.Did.TheVariants.{Put, Grown, Failing, Settled, Said, Unsaid}
 use Rattle.tl_memhost.specs.declared.record.Entry.{Entry}

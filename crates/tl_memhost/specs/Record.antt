@@ -4,7 +4,7 @@ use Rattle.std.specs.declared.alloc.Global.{Global}
 use Rattle.std.specs.FinMap as map
 use Rattle.std.specs.FinSet as set
 use Rattle.tl_model.specs.Volume.{Name, Volume, Names, at}
-use Rattle.tl_model.specs.Seen.{Moment, Stretch, at_rest, changing, saying}
+use Rattle.tl_model.specs.Seen.{Stretch, at_rest, changing, saying}
 use Rattle.tl_memhost.specs.Memory.{Standing, Step, Memory, moment_of}
 use Rattle.tl_memhost.specs.declared.record.Did.{Did}
 use Rattle.tl_memhost.specs.declared.record.Did.TheVariants.{Put, Grown, Failing, Settled, Said, Unsaid}

@@ -1,7 +1,7 @@
-use Rattle.std.proofs.Common.{◌≡◌, ◌∙◌, [], ◌∷◌, ◌++◌, ℕ, List, Option, Some, None, sym, ap, subst, append_assoc}
+use Rattle.std.proofs.Common.{◌≡◌, ◌∙◌, [], ◌∷◌, ◌++◌, List, None, sym, ap, append_assoc}
 use Rattle.std.specs.FinMap as map
 use Rattle.tl_model.specs.Volume.{Name, Volume, at}
-use Rattle.tl_memhost.specs.Given.{given, AreApart}
+use Rattle.tl_memhost.specs.Given.{given}
 use Rattle.tl_memhost.specs.declared.given.FileBytes.{FileBytes}
 use Rattle.tl_memhost.proofs.Held.{contents}
 use Rattle.tl_memhost.proofs.Apart.{given_push, apart_push}

@@ -1,8 +1,8 @@
-use Rattle.std.proofs.Common.{◌≡◌, ◌∙◌, ◌-◌, ◌<◌, suc, ℕ, Bool, true, false, cond, List, Option, length, take, reverse, sym, ap, subst, arith}
+use Rattle.std.proofs.Common.{◌≡◌, ◌∙◌, ◌-◌, ◌<◌, suc, ℕ, true, false, cond, List, Option, length, take, reverse, sym, ap, arith}
 use Rattle.std.specs.Borrow.{Bor}
 use Rattle.std.specs.Option.{option_map}
 use Rattle.std.specs.FinSet as set
-use Rattle.tl_model.specs.Volume.{Name, Volume, at}
+use Rattle.tl_model.specs.Volume.{at}
 use Rattle.tl_memhost.specs.Record.{touched_of}
 use Rattle.tl_memhost.specs.Stop.{is_sync}
 use Rattle.tl_memhost.proofs.Filled.{fill_back, fill_stop, fill_end}

@@ -1,4 +1,4 @@
-use Rattle.std.proofs.Common.{◌≡◌, ◌≤◌, List, length, take, reverse, cond}
+use Rattle.std.proofs.Common.{◌≡◌, ◌≤◌, length, take, reverse, cond}
 use Rattle.std.specs.Option.{option_map}
 use Rattle.std.specs.FinSet as set
 use Rattle.tl_model.specs.Volume.{Name, at}

@@ -1,8 +1,7 @@
-use Rattle.std.proofs.Common.{◌≡◌, ◌∙◌, ◌-◌, ◌<◌, ◌≤◌, suc, ℕ, List, length, take, reverse, sym, ap, subst, arith, refl}
+use Rattle.std.proofs.Common.{◌≡◌, ◌∙◌, ◌-◌, ◌<◌, ◌≤◌, suc, ℕ, take, reverse, sym, ap, subst, arith, refl}
 use Rattle.std.proofs.lemmas.Bool.{le-leb, lt-leb}
 use Rattle.tl_model.specs.Volume.{Volume}
-use Rattle.tl_memhost.specs.Memory.{Standing}
-use Rattle.tl_memhost.specs.Record.{unheld, unsaid, standing}
+use Rattle.tl_memhost.specs.Record.{unsaid, standing}
 use Rattle.tl_memhost.proofs.Back.{IsBack, back_start, back_step, back_stop}
 use Rattle.tl_memhost.proofs.stop.go_back.Goals as goal
 

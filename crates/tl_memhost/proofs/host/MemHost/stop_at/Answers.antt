@@ -1,6 +1,6 @@
-use Rattle.std.proofs.Common.{◌≡◌, ◌∙◌, ◌+◌, ◌≤◌, ℕ, List, Bool, false, sym, ap, subst, arith}
+use Rattle.std.proofs.Common.{◌≡◌, ◌+◌, ◌≤◌, false, sym, subst, arith}
 use Rattle.std.specs.FinSet as set
-use Rattle.tl_model.specs.Volume.{Volume, Name, at}
+use Rattle.tl_model.specs.Volume.{Name, at}
 use Rattle.tl_model.specs.Seen.{Could}
 use Rattle.tl_memhost.specs.Memory.{Memory, seen, before_call}
 use Rattle.tl_memhost.proofs.Filled.{left_apart}

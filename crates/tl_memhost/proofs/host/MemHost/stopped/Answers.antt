@@ -1,7 +1,6 @@
-use Rattle.std.proofs.Common.{◌≡◌, ◌∙◌, ℕ, List, take, reverse, sym, ap, subst}
-use Rattle.tl_model.specs.Volume.{Volume, Name, at}
+use Rattle.std.proofs.Common.{◌∙◌, List, reverse, sym, ap}
+use Rattle.tl_model.specs.Volume.{Volume, at}
 use Rattle.tl_memhost.specs.Memory.{Memory, Standing, before_call}
-use Rattle.tl_memhost.specs.Record.{standing}
 use Rattle.tl_memhost.specs.Stop.{left}
 use Rattle.tl_memhost.specs.declared.record.Entry.{Entry}
 use Rattle.tl_memhost.proofs.Back.{back}
