@@ -1,9 +1,9 @@
 -- Back over the record, from the newest call on, to the call of a number.
-use Rattle.std.proofs.Common.{◌≡◌, ℕ, suc, ◌+◌, ◌<◌, ◌≤◌, nat_le, Bool, true, false, cond, List, [], ◌∷◌, ◌++◌, length, take, reverse, get_or, refl, sym, ◌∙◌, ap, subst, arith}
+use Rattle.std.proofs.Common.{◌≡◌, ℕ, suc, ◌<◌, ◌≤◌, nat_le, true, false, cond, List, [], ◌∷◌, length, take, reverse, get_or, sym, ◌∙◌, ap, arith}
 use Rattle.std.proofs.lemmas.List.{reverse-append}
 use Rattle.std.proofs.Math.Seq.{take-suc, take-length}
 use Rattle.tl_model.specs.Volume.{Volume}
-use Rattle.tl_memhost.specs.Memory.{Standing, Step, before}
+use Rattle.tl_memhost.specs.Memory.{Standing, before}
 use Rattle.tl_memhost.specs.Record.{unheld, unsaid, standing, steps_of}
 use Rattle.tl_memhost.specs.declared.record.Entry.{Entry}
 
@@ -30,7 +30,7 @@ pub back_step : (call : ℕ) (items : List Entry) (held : Volume) (said : List �
 back_step call items held said n v s e far is le = record {
   within = omega (arith, far.within);
   same = far.same ∙ ap (λ (es : List Entry). back call es v s) (reverse_take items n e (omega (arith, far.within)) is)
-    ∙ ap (λ b. cond b (back call (reverse (take n items)) (unheld e.did v) (unsaid e.did s)) (standing (e ∷ reverse (take n items)) v s)) le;
+      ∙ ap (λ b. cond b (back call (reverse (take n items)) (unheld e.did v) (unsaid e.did s)) (standing (e ∷ reverse (take n items)) v s)) le;
 }
 
 pub back_stop : (call : ℕ) (items : List Entry) (held : Volume) (said : List ℕ) (n : ℕ) (v : Volume) (s : List ℕ) (e : Entry)

@@ -1,6 +1,5 @@
 -- The counts of calls and of moments go on together.
-use Rattle.std.proofs.Common.{◌≡◌, ℕ, zero, suc, length, refl, ◌++◌, length-append, ◌+◌, ◌-◌, ◌^◌, ◌<◌, ◌≤◌, List, [], ◌∷◌, arith}
-use Rattle.tl_model.specs.Causes.{one_more}
+use Rattle.std.proofs.Common.{◌≡◌, ℕ, zero, suc, length, refl, length-append, ◌+◌, ◌-◌, ◌^◌, ◌<◌, ◌≤◌, List, [], ◌∷◌, arith}
 use Rattle.tl_model.specs.Seen.{Stretch, at_rest, moment}
 use Rattle.tl_memhost.specs.Memory.{Standing, Step, Memory, moments, AreCounted, IsCounted, recorded, many, stretches, moment_of, seen}
 
@@ -15,7 +14,7 @@ counted_recorded m during after counted = record {
   each = (counted.least, counted.each);
 }
 
-length-many : (n : ℕ) (s : Stretch) → length (many n s) ≡ n
+pub length-many : (n : ℕ) (s : Stretch) → length (many n s) ≡ n
 length-many zero s = refl
 length-many (suc n) s = simp length-append (let h : length (many n s) ≡ n = length-many n s in omega arith)
 

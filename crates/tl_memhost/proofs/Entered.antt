@@ -1,5 +1,5 @@
 -- A record with one entry more says that one call more was recorded.
-use Rattle.std.proofs.Common.{◌≡◌, ◌≢◌, ◌⊎◌, inl, inr, ℕ, List, [], ◌∷◌, ◌++◌, length, take, reverse, Option, Some, None, Vec, refl, sym, ◌∙◌, ap, subst}
+use Rattle.std.proofs.Common.{◌≡◌, inl, inr, ℕ, List, [], ◌∷◌, ◌++◌, length, take, reverse, Option, Some, None, refl, sym, ◌∙◌, ap, subst}
 use Rattle.std.specs.Option.{unwrap_or, IsSome}
 use Rattle.std.specs.FinMap as map
 use Rattle.std.proofs.lemmas.Bool.{true≢false}
@@ -8,7 +8,7 @@ use Rattle.std.proofs.Math.Seq.{take-append_seam}
 use Rattle.tl_model.specs.Causes.{one_more}
 use Rattle.tl_model.specs.Volume.{Name, Volume, SameBut, at, cases_name, same_volume, at-insert_here, at-insert_apart, at-remove_here, at-remove_apart}
 use Rattle.tl_memhost.specs.Held.{Bytes}
-use Rattle.tl_memhost.specs.Memory.{Standing, Step, Memory, IsCounted, moment_of, recorded, changed}
+use Rattle.tl_memhost.specs.Memory.{Standing, Memory, IsCounted, recorded, changed}
 use Rattle.tl_memhost.specs.Record.{put, cut, unheld, unsaid, touches, settles, touched_of, settled_of, standing, during, step_of, steps_of, memory}
 use Rattle.tl_memhost.specs.declared.record.Did.{Did}
 use Rattle.tl_memhost.specs.declared.record.Did.TheVariants.{Put, Grown}
@@ -27,19 +27,29 @@ after did held said s = record { held = held; touched = touches did s.touched; s
 pub entered : (items : List Entry) (did : Did) (old new : Volume) (before said : List ℕ) (rest calls short : ℕ) (failing : List ℕ) (syncs faults : ℕ)
     → unheld did new ≡ old → unsaid did said ≡ before
     → memory (items ++ entry calls rest did ∷ []) new said 0 (one_more calls) short failing syncs faults
-      ≡ recorded (memory items old before rest calls short failing syncs faults) (during did said (standing (reverse items) old before)) (after did new said (standing (reverse items) old before))
+    ≡ recorded (memory items old before rest calls short failing syncs faults) (during did said (standing (reverse items) old before)) (after did new said (standing (reverse items) old before))
 entered items did old new before said rest calls short failing syncs faults held told =
     ap (λ (es : List Entry). record { steps = steps_of es new said; rest = 0; present = standing es new said; calls = one_more calls; short = short; failing = failing; syncs = syncs; faults = faults }) (reverse-append items (entry calls rest did ∷ []))
     ∙ ap (λ (v : Volume). record {
-        steps = step_of (entry calls rest did) said (standing (reverse items) v (unsaid did said)) ∷ steps_of (reverse items) v (unsaid did said);
-        rest = 0;
-        present = record { held = new; touched = touches did (touched_of (reverse items)); said = said; settled = settles did (settled_of (reverse items) v) v };
-        calls = one_more calls; short = short; failing = failing; syncs = syncs; faults = faults }) held
+      steps = step_of (entry calls rest did) said (standing (reverse items) v (unsaid did said)) ∷ steps_of (reverse items) v (unsaid did said);
+      rest = 0;
+      present = record { held = new; touched = touches did (touched_of (reverse items)); said = said; settled = settles did (settled_of (reverse items) v) v };
+      calls = one_more calls;
+      short = short;
+      failing = failing;
+      syncs = syncs;
+      faults = faults;
+    }) held
     ∙ ap (λ (s : List ℕ). record {
-        steps = step_of (entry calls rest did) said (standing (reverse items) old s) ∷ steps_of (reverse items) old s;
-        rest = 0;
-        present = record { held = new; touched = touches did (touched_of (reverse items)); said = said; settled = settles did (settled_of (reverse items) old) old };
-        calls = one_more calls; short = short; failing = failing; syncs = syncs; faults = faults }) told
+      steps = step_of (entry calls rest did) said (standing (reverse items) old s) ∷ steps_of (reverse items) old s;
+      rest = 0;
+      present = record { held = new; touched = touches did (touched_of (reverse items)); said = said; settled = settles did (settled_of (reverse items) old) old };
+      calls = one_more calls;
+      short = short;
+      failing = failing;
+      syncs = syncs;
+      faults = faults;
+    }) told
 
 pub counted_entered : (items : List Entry) (did : Did) (old new : Volume) (before said : List ℕ) (rest calls short : ℕ) (failing : List ℕ) (syncs faults : ℕ)
     → unheld did new ≡ old → unsaid did said ≡ before → IsCounted (memory items old before rest calls short failing syncs faults)
@@ -88,8 +98,8 @@ pub grown_entered : (items items' : List Entry) (own : Name) (bytes : List ℕ) 
     → memory items' new said 0 calls' short failing syncs faults ≡ changed name new (memory items old said rest calls short failing syncs faults)
 grown_entered items items' own bytes n old new said rest calls calls' short failing syncs faults name named some is grown list count =
     let back : cut own n (at new own) new ≡ old =
-      subst (λ (k : Name). cut k n (at new k) new ≡ old) (sym named)
-      (subst (λ (v : Volume). cut name n (at v name) v ≡ old) (sym grown) (cut_back old name bytes n some is)) in
+    subst (λ (k : Name). cut k n (at new k) new ≡ old) (sym named)
+    (subst (λ (v : Volume). cut name n (at v name) v ≡ old) (sym grown) (cut_back old name bytes n some is)) in
     ap (λ (es : List Entry). memory es new said 0 calls' short failing syncs faults) list
     ∙ ap (λ (k : ℕ). memory (items ++ entry calls rest (Grown own n) ∷ []) new said 0 k short failing syncs faults) count
     ∙ entered items (Grown own n) old new said said rest calls short failing syncs faults back refl

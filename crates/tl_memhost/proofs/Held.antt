@@ -1,13 +1,13 @@
 -- What a look-up and a change of an ordered map of files are on its volume.
-use Rattle.std.proofs.Common.{◌≡◌, ◌≢◌, ℕ, ◌⊎◌, inl, inr, Bool, true, false, cond, List, [], ◌∷◌, ◌++◌, take, Option, Some, None, Vec, refl, sym, ◌∙◌, ap, subst}
-use Rattle.std.specs.Option.{option_map, is_some, IsSome, IfSome, unwrap_or}
+use Rattle.std.proofs.Common.{◌≡◌, ◌≢◌, ℕ, ◌⊎◌, inl, inr, Bool, true, false, cond, List, [], ◌∷◌, Option, Some, None, refl, sym, ◌∙◌, ap, subst}
+use Rattle.std.specs.Option.{option_map, is_some, IsSome, IfSome}
 use Rattle.std.specs.Ordering.{nat_cmp, is_eq, is_gt, match_ordering, ordering_reverse}
 use Rattle.std.specs.Borrow.{Bor}
 use Rattle.std.specs.declared.ops.Bound.{Bound}
 use Rattle.std.specs.declared.ops.Bound.TheVariants.{Included, Excluded, Unbounded}
 use Rattle.std.specs.Range.Bound.{bound_map}
 use Rattle.std.specs.BTreeMap.{BTreeMap}
-use Rattle.std.specs.BTreeMap.Range.{IsRangeOf, IsInRange, IsFromStart, IsEntryInRange}
+use Rattle.std.specs.BTreeMap.Range.{IsRangeOf, IsFromStart}
 use Rattle.std.specs.declared.cmp.Ordering.{Ordering}
 use Rattle.std.specs.declared.cmp.Ordering.TheVariants.{Less, Equal, Greater}
 use Rattle.std.specs.Cmp.Lexicographic.{slice_cmp, nat_list_cmp_total}
@@ -17,7 +17,7 @@ use Rattle.std.specs.List.{AllZip, each_same}
 use Rattle.std.specs.Vec.{vec_len}
 use Rattle.std.specs.Map.{lookup, set_value, remove_entry}
 use Rattle.std.specs.BTreeMap.{is_at, insert_entry}
-use Rattle.std.proofs.lemmas.Bool.{cases_Bool, true≢false}
+use Rattle.std.proofs.lemmas.Bool.{true≢false}
 use Rattle.tl_model.specs.Volume.{Name, Volume, at, IsBefore, same_name, same_name-is, same_name-refl, same_name-apart, cases_name, same_volume, at-insert_here, at-insert_apart, at-remove_here, at-remove_apart}
 use Rattle.tl_path.specs.Path.{IsPath}
 use Rattle.tl_memhost.specs.Held.{Bytes, volume_of, ArePaths, IsFrom, IsFirstFrom}
@@ -204,11 +204,14 @@ first_none start m r is range other from = by_keys m.entries other (λ k same. r
 pub first_some : (start : Bound (Bor Bytes)) (m : BTreeMap Bytes Bytes) (r rest : List (Bytes × Bytes)) (e : Bytes × Bytes) (name : Name) → r ≡ e ∷ rest → name ≡ e.0.items → IsRangeOf order (on_keys start) Unbounded m r → IsFirstFrom start m.entries (Some name)
 first_some start m r rest e name is same range =
     let known : IsRangeOf order (on_keys start) Unbounded m (e ∷ rest) = subst (λ (l : List (Bytes × Bytes)). IsRangeOf order (on_keys start) Unbounded m l) is range in
-    let here : at (volume_of m.entries) name ≡ Some e.1.items = at-volume_of m.entries name ∙ ap contents (subst (λ (n : Name). lookup (is_at (beside n)) m.entries ≡ Some e.1) (sym same) known.1.1) in
-    (ap is_some here, started start e.0 name same known.1.0.0, λ other from before. by_keys m.entries other (λ k is. elim (some_or_none (lookup (is_at (beside k.items)) m.entries)) [
-      | inl none ↦ none
-      | inr some ↦ absurd (not_below other name before (subst (λ (n : Name). is_gt (slice_cmp nat_cmp n other) ≡ false) (sym same) (subst (λ (n : Name). is_gt (slice_cmp nat_cmp e.0.items n) ≡ false) (sym is) (known.2 k (starts start k other is from, tt) some))))
-    ]))
+    let here : at (volume_of m.entries) name ≡ Some e.1.items = at-volume_of m.entries name ∙ ap contents (subst (λ (n : Name). lookup (is_at (beside n)) m.entries ≡ Some e.1) (sym same) known.1.1) in (
+      ap is_some here,
+      started start e.0 name same known.1.0.0,
+      λ other from before. by_keys m.entries other (λ k is. elim (some_or_none (lookup (is_at (beside k.items)) m.entries)) [
+        | inl none ↦ none
+        | inr some ↦ absurd (not_below other name before (subst (λ (n : Name). is_gt (slice_cmp nat_cmp n other) ≡ false) (sym same) (subst (λ (n : Name). is_gt (slice_cmp nat_cmp e.0.items n) ≡ false) (sym is) (known.2 k (starts start k other is from, tt) some))))
+      ]),
+    )
 
 -- the name that is found is a path
 pub named : (start : Bound (Bor Bytes)) (es : List (Bytes × Bytes)) (found : Option (Bor (List ℕ))) → IsFirstFrom start es (option_map (λ (n : Bor (List ℕ)). n.now) found) → ArePaths es → IfSome found (λ n. IsPath n.now)
@@ -223,6 +226,7 @@ copied (e ∷ es) [] all = absurd all
 copied (e ∷ es) (f ∷ fs) all =
     let rest : (volume_of fs ≡ volume_of es) × (ArePaths es → ArePaths fs) = copied es fs all.1 in
     let name : f.0.items ≡ e.0.items = each_same e.0.items f.0.items all.0.0.0 in
-    let bytes : f.1.items ≡ e.1.items = each_same e.1.items f.1.items all.0.1.0 in
-    ( ap (λ (v : Volume). map.insert v f.0.items f.1.items) rest.0 ∙ ap (λ (n : Name). map.insert (volume_of es) n f.1.items) name ∙ ap (map.insert (volume_of es) e.0.items) bytes
-    , λ paths. (subst IsPath (sym name) paths.0, rest.1 paths.1) )
+    let bytes : f.1.items ≡ e.1.items = each_same e.1.items f.1.items all.0.1.0 in (
+      ap (λ (v : Volume). map.insert v f.0.items f.1.items) rest.0 ∙ ap (λ (n : Name). map.insert (volume_of es) n f.1.items) name ∙ ap (map.insert (volume_of es) e.0.items) bytes,
+      λ paths. (subst IsPath (sym name) paths.0, rest.1 paths.1),
+    )

@@ -1,12 +1,12 @@
 -- Each kind of call, as a host tells it.
-use Rattle.std.proofs.Common.{◌≡◌, ◌⊎◌, inl, inr, ℕ, zero, suc, ◌+◌, ◌-◌, ◌^◌, ◌<◌, ◌≤◌, Bool, true, false, List, [], ◌∷◌, ◌++◌, length, take, refl, sym, ◌∙◌, ap, subst, arith, append_assoc}
+use Rattle.std.proofs.Common.{◌≡◌, ◌⊎◌, inl, inr, ℕ, suc, ◌-◌, ◌^◌, true, false, List, [], ◌∷◌, ◌++◌, length, refl, sym, ◌∙◌, ap, subst, arith, append_assoc}
 use Rattle.std.proofs.lemmas.Bool.{true≢false, cases_lt}
 use Rattle.std.proofs.lemmas.List.{append-nil}
 use Rattle.std.proofs.Math.Seq.{take-length}
 use Rattle.tl_model.specs.Causes.{one_more}
 use Rattle.tl_model.specs.Volume.{Name, Volume, SameBut}
-use Rattle.tl_model.specs.Seen.{Moment, Stretch, Seen, at_rest, changing, saying, Quiet, Changes, Syncs, Says}
-use Rattle.tl_memhost.specs.Memory.{Standing, Memory, many, stretches, moment_of, seen, looked, failed, synced, changed, told}
+use Rattle.tl_model.specs.Seen.{Stretch, at_rest, Quiet, Changes, Syncs, Says}
+use Rattle.tl_memhost.specs.Memory.{Memory, many, stretches, moment_of, seen, looked, failed, synced, changed, told}
 
 -- a count goes on by one, or stands still
 one_more_cases : (n : ℕ) → (one_more n ≡ suc n) ⊎ (one_more n ≡ n)

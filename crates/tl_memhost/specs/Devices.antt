@@ -1,9 +1,8 @@
 -- What a shelf and a source in memory are seen as.
-use Rattle.std.specs.Prelude.{◌≡◌, ℕ, Bool, not, nat_eq, if◌then◌else◌, List, ◌++◌, ◌∷◌, map, refl}
-use Rattle.std.specs.List.{list_any, All}
+use Rattle.std.specs.Prelude.{◌≡◌, ℕ, Bool, not, nat_eq, if◌then◌else◌, List, refl}
+use Rattle.std.specs.List.{list_any}
 use Rattle.std.specs.Coded.{Coded, code_by, coded×, coded_ℕ, coded_list}
 use Rattle.tl_model.specs.Causes.{one_more}
-use Rattle.tl_model.specs.Volume.{Name, Volume}
 use Rattle.tl_model.specs.Devices.{ShelfSeen, SourceSeen, shelf_code, source_code}
 
 -- a source in memory: what is left, the number of its calls, and the numbers of the calls that are to fail

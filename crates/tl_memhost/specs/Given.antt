@@ -1,5 +1,5 @@
 -- The files that a device in memory is made of.
-use Rattle.std.specs.Prelude.{◌≡◌, ℕ, List, [], ◌∷◌, ◌++◌, None, IsSome}
+use Rattle.std.specs.Prelude.{◌≡◌, List, [], ◌∷◌, ◌++◌, None, IsSome}
 use Rattle.std.specs.FinMap as map
 use Rattle.tl_model.specs.Volume.{Name, Volume, at}
 use Rattle.tl_memhost.specs.declared.given.FileBytes.{FileBytes}

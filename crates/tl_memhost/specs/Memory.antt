@@ -1,11 +1,10 @@
 -- What a host in memory is seen as: what stands at present, and what stood before each call that was recorded.
-use Rattle.std.specs.Prelude.{◌≡◌, ◌⊎◌, not, ℕ, zero, suc, ◌+◌, ◌-◌, ◌^◌, ◌<◌, ◌≤◌, Bool, true, false, nat_le, nat_eq, if◌then◌else◌, List, [], ◌∷◌, ◌++◌, Option, None, Some, refl}
+use Rattle.std.specs.Prelude.{◌≡◌, ◌⊎◌, not, ℕ, zero, suc, ◌+◌, ◌-◌, ◌^◌, ◌<◌, ◌≤◌, Bool, true, false, nat_le, nat_eq, if◌then◌else◌, List, [], ◌∷◌, ◌++◌, refl}
 use Rattle.std.specs.List.{list_any}
-use Rattle.std.specs.FinMap as map
 use Rattle.std.specs.FinSet as set
 use Rattle.std.specs.Coded.{Coded, code_by, coded×, coded_ℕ, coded_list}
 use Rattle.tl_model.specs.Causes.{one_more}
-use Rattle.tl_model.specs.Volume.{Name, Volume, Names, at, volume_code, names_code}
+use Rattle.tl_model.specs.Volume.{Name, Volume, Names, volume_code, names_code}
 use Rattle.tl_model.specs.Seen.{Moment, Stretch, Seen, at_rest, changing, saying}
 
 -- what stands: what is held, the names touched since the last sync that succeeded, the bytes said, and what was held

@@ -4,10 +4,10 @@ use Rattle.std.specs.declared.alloc.Global.{Global}
 use Rattle.std.specs.FinMap as map
 use Rattle.std.specs.FinSet as set
 use Rattle.tl_model.specs.Volume.{Name, Volume, Names, at}
-use Rattle.tl_model.specs.Seen.{Moment, Stretch, at_rest, changing, saying}
+use Rattle.tl_model.specs.Seen.{Stretch, at_rest, changing, saying}
 use Rattle.tl_memhost.specs.Memory.{Standing, Step, Memory, moment_of}
 use Rattle.tl_memhost.specs.declared.record.Did.{Did}
-use Rattle.tl_memhost.specs.declared.record.Did.TheVariants.{Put, Grown, Failing, Synced, Said, Unsaid}
+use Rattle.tl_memhost.specs.declared.record.Did.TheVariants.{Put, Grown, Failing, Settled, Said, Unsaid}
 use Rattle.tl_memhost.specs.declared.record.Entry.{Entry}
 
 -- a name that holds these bytes, or is absent
@@ -25,7 +25,7 @@ abbrev pub unheld : Did → Volume → Volume
 unheld (Put name bytes) volume = put name bytes volume
 unheld (Grown name length) volume = cut name length (at volume name) volume
 unheld (Failing name) volume = volume
-unheld Synced volume = volume
+unheld Settled volume = volume
 unheld (Said length) volume = volume
 unheld (Unsaid bytes) volume = volume
 
@@ -34,7 +34,7 @@ abbrev pub unsaid : Did → List ℕ → List ℕ
 unsaid (Put name bytes) said = said
 unsaid (Grown name length) said = said
 unsaid (Failing name) said = said
-unsaid Synced said = said
+unsaid Settled said = said
 unsaid (Said length) said = take length said
 unsaid (Unsaid bytes) said = said
 
@@ -43,7 +43,7 @@ abbrev pub touches : Did → Names → Names
 touches (Put name bytes) names = set.insert names name
 touches (Grown name length) names = set.insert names name
 touches (Failing name) names = set.insert names name
-touches Synced names = set.empty
+touches Settled names = set.empty
 touches (Said length) names = names
 touches (Unsaid bytes) names = names
 
@@ -53,7 +53,7 @@ abbrev pub settles : Did → Volume → Volume → Volume
 settles (Put name bytes) settled held = settled
 settles (Grown name length) settled held = settled
 settles (Failing name) settled held = settled
-settles Synced settled held = held
+settles Settled settled held = held
 settles (Said length) settled held = settled
 settles (Unsaid bytes) settled held = settled
 
@@ -76,7 +76,7 @@ abbrev pub during : Did → List ℕ → Standing → Stretch
 during (Put name bytes) said s = changing name (moment_of s)
 during (Grown name length) said s = changing name (moment_of s)
 during (Failing name) said s = changing name (moment_of s)
-during Synced said s = at_rest (moment_of s)
+during Settled said s = at_rest (moment_of s)
 during (Said length) said s = saying (drop length said) (moment_of s)
 during (Unsaid bytes) said s = saying bytes.items (moment_of s)
 

@@ -103,7 +103,11 @@ impl Host for MemHost {
         Ok(count)
     }
 
-    fn next_name(&mut self, after: Option<PathRef<'_>>, name: &mut [u8; 1024]) -> Result<Option<usize>, Failed>
+    fn next_name(
+        &mut self,
+        after: Option<PathRef<'_>>,
+        name: &mut [u8; 1024],
+    ) -> Result<Option<usize>, Failed>
         ensures next { Told true (IfOk result (λ found.
             IsNext (seen self.old).present.held after.entry (option_map (λ count. take count name.new) found))) }
         ensures path { IfOk result (λ found. IfSome found (λ count.
@@ -154,7 +158,7 @@ impl Host for MemHost {
         // It fails exactly where it is named, when its name is touched, or where it finds no memory.
         ensures exact { Outcome (is_ok result) self.old self.new
             (changed name.entry (map.insert self.old.present.held name.entry
-                (unwrap_or (at self.old.present.held name.entry) [] ++ bytes.now)) self.old)
+            (unwrap_or (at self.old.present.held name.entry) [] ++ bytes.now)) self.old)
             (failed (changed name.entry self.old.present.held self.old)) (lost self.old) }
     {
         if self.is_named() {

@@ -3,14 +3,14 @@ ghost use Rattle.std.specs.Prelude.{◌≡◌, ◌++◌, [], length, take, OnOk,
 ghost use Rattle.tl_memhost.specs.Held.{IsFirstFrom};
 ghost use Rattle.std.specs.Option.{option_map, unwrap_or};
 ghost use Rattle.std.specs.FinMap as map;
-ghost use Rattle.tl_model.specs.Volume.{at, IsNext};
+ghost use Rattle.tl_model.specs.Volume.{at, SameBut, IsNext};
 ghost use Rattle.tl_path.specs.Path.{IsPath};
 
 use crate::record::Did;
 use std::alloc::{AllocError, Global};
 use std::collections::BTreeMap;
-use std::ops::Bound;
 use std::marker::Model;
+use std::ops::Bound;
 
 #[derive(Drop)]
 pub(crate) struct Files {
@@ -74,7 +74,11 @@ impl Files {
     }
 
     // Makes a name hold these bytes, and gives what it held before.
-    pub(crate) fn insert(&mut self, name: Vec<u8>, bytes: Vec<u8>) -> Result<Option<Vec<u8>>, AllocError>
+    pub(crate) fn insert(
+        &mut self,
+        name: Vec<u8>,
+        bytes: Vec<u8>,
+    ) -> Result<Option<Vec<u8>>, AllocError>
         requires { IsPath name.items }
         ensures before { IfOk result (λ before. option_map (λ b. b.items) before ≡ at self.old name.items) }
         ensures ok { OnOk result (self.new ≡ map.insert self.old name.items bytes.items) }
@@ -135,6 +139,29 @@ impl Files {
         let bytes = Vec::from_slice(alloc, bytes)?;
         self.insert(name, bytes)?;
         Ok(())
+    }
+
+    // Makes a name hold a copy of these bytes, or nothing.
+    pub(crate) fn give(
+        &mut self,
+        alloc: Global,
+        name: &[u8],
+        bytes: Option<&[u8]>,
+    ) -> Result<(), AllocError>
+        requires { IsPath name.now }
+        ensures here { OnOk result (at self.new name.now ≡ option_map (λ b. b.now) bytes.entry) }
+        ensures apart { OnOk result (SameBut name.now self.old self.new) }
+    {
+        match bytes {
+            Some(bytes) => {
+                self.set(alloc, name, bytes)?;
+                Ok(())
+            }
+            None => {
+                let _ = self.remove(name);
+                Ok(())
+            }
+        }
     }
 
     // Goes back over a call.

@@ -45,7 +45,7 @@ impl Bytes {
 }
 
 /// A file: its path and what it holds.
-#[derive(Drop)]
+#[derive(Debug, Drop)]
 pub struct FileBytes {
     /// Its path.
     pub path: Path,
@@ -54,7 +54,7 @@ pub struct FileBytes {
 }
 
 /// Why a device isn't made.
-#[derive(Drop)]
+#[derive(Debug, Drop)]
 pub enum MemError {
     /// This is the path of the first file whose path an earlier one has.
     Repeated {

@@ -1,10 +1,11 @@
 // A host in memory.
-ghost use Rattle.std.specs.Prelude.{◌≡◌, ◌≤◌, ◌<◌, ◌+◌, ◌-◌, ◌^◌, ◌++◌, ◌∷◌, ◌⊎◌, [], length, IfOk, IfErr, IfSome, OnOk, OnErr, IsSome, None, Some, take, if◌then◌else◌};
+ghost use Rattle.tl_memhost.specs.Stop.{left, IsStopRefusal};
+ghost use Rattle.std.specs.Prelude.{◌≡◌, ℕ, ◌≤◌, ◌<◌, ◌+◌, ◌-◌, ◌^◌, ◌++◌, ◌∷◌, ◌⊎◌, [], length, IfOk, IfErr, IfSome, OnOk, OnErr, IsSome, None, Some, take, if◌then◌else◌};
 ghost use Rattle.std.specs.Option.{option_map, unwrap_or};
 ghost use Rattle.std.specs.FinMap as map;
 ghost use Rattle.std.specs.Vec.{vec_capacity};
-ghost use Rattle.tl_model.specs.Volume.{at, IsNext};
-ghost use Rattle.tl_model.specs.Seen.{moment};
+ghost use Rattle.tl_model.specs.Volume.{Name, at, IsNext};
+ghost use Rattle.tl_model.specs.Seen.{moment, Could};
 ghost use Rattle.tl_path.specs.Path.{IsPath};
 ghost use Rattle.tl_memhost.specs.Given.{given, AreApart, IsRefusal};
 ghost use Rattle.tl_memhost.specs.Memory.{fresh, seen, before_call, is_named, looked, failed, lost, changed, settled, synced, told};
@@ -13,6 +14,7 @@ use crate::changes::{enter, unsaid};
 use crate::files::Files;
 use crate::given::{FileBytes, MemError, files_of};
 use crate::record::{Did, Entry, Named};
+use crate::stop::{Choice, StopError, go_back, leave};
 use std::alloc::{AllocError, Global};
 use std::marker::Model;
 use tl_host::Failed;
@@ -152,6 +154,41 @@ impl MemHost {
         said as u64
     }
 
+    /// The host as a stop before the call of this number leaves it: each touched name as is chosen, each other name as a
+    /// read gave it. It is a new host with no call, and no call of it is to fail. `NoSuchCall` exactly where the number
+    /// is greater than that of the calls. What it holds is a picture that could be left since each moment before the call.
+    pub fn stop_at(&self, call: u64, choice: &Choice) -> Result<MemHost, StopError>
+        ensures fresh { IfOk result (λ host. host ≡ fresh host.present.held) }
+        ensures left { IfOk result (λ host. (name : Name)
+            → at host.present.held name ≡ left choice.now (before_call self.now call) name) }
+        ensures picture { IfOk result (λ host. (t : ℕ) → t + self.now.short ≤ call
+            → Could (seen self.now) t host.present.held (before_call self.now call).said) }
+        ensures within { OnOk result (call ≤ self.now.calls) }
+        ensures refused { IfErr result (IsStopRefusal self.now call) }
+    {
+        if call > self.calls {
+            return Err(StopError::NoSuchCall);
+        }
+        match self.stopped(call, choice) {
+            Ok(host) => Ok(host),
+            Err(_) => Err(StopError::NoMemory),
+        }
+    }
+
+    // The host as a stop before a call leaves it.
+    fn stopped(&self, call: u64, choice: &Choice) -> Result<MemHost, AllocError>
+        ensures fresh { IfOk result (λ host. host ≡ fresh host.present.held) }
+        ensures left { IfOk result (λ host. (name : Name)
+            → at host.present.held name ≡ left choice.now (before_call self.now call) name) }
+    {
+        let mut files = self.files.copy()?;
+        let record = self.record.as_slice();
+        let count = go_back(self.alloc, record, call, &mut files)?;
+        leave(self.alloc, &record[..count], choice, &mut files)?;
+        let host = MemHost::with(self.alloc, files)?;
+        Ok(host)
+    }
+
     // Whether the next call is to fail.
     pub(crate) fn is_named(&self) -> bool
         ensures { result ≡ is_named self.now }
@@ -221,7 +258,12 @@ impl MemHost {
         let name = Named::of(self.alloc, name)?;
         self.record.reserve(1)?;
         let before = self.files.insert(key, Vec::new(self.alloc))?;
-        enter(&mut self.record, self.calls, self.rest, Did::Put(name, before));
+        enter(
+            &mut self.record,
+            self.calls,
+            self.rest,
+            Did::Put(name, before),
+        );
         self.rest = 0;
         self.calls = self.calls.saturating_add(1);
         Ok(())
@@ -236,7 +278,12 @@ impl MemHost {
         let gone = Named::of(self.alloc, name)?;
         self.record.reserve(1)?;
         let before = self.files.remove(name);
-        enter(&mut self.record, self.calls, self.rest, Did::Put(gone, before));
+        enter(
+            &mut self.record,
+            self.calls,
+            self.rest,
+            Did::Put(gone, before),
+        );
         self.rest = 0;
         self.calls = self.calls.saturating_add(1);
         Ok(())
@@ -253,7 +300,12 @@ impl MemHost {
         let grown = Named::of(self.alloc, name)?;
         self.record.reserve(1)?;
         let length = self.files.append(name, bytes)?;
-        enter(&mut self.record, self.calls, self.rest, Did::Grown(grown, length));
+        enter(
+            &mut self.record,
+            self.calls,
+            self.rest,
+            Did::Grown(grown, length),
+        );
         self.rest = 0;
         self.calls = self.calls.saturating_add(1);
         Ok(())
@@ -266,7 +318,7 @@ impl MemHost {
     {
         self.syncs = self.syncs.saturating_add(1);
         self.record.reserve(1)?;
-        enter(&mut self.record, self.calls, self.rest, Did::Synced);
+        enter(&mut self.record, self.calls, self.rest, Did::Settled);
         self.rest = 0;
         self.calls = self.calls.saturating_add(1);
         Ok(())

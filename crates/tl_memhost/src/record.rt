@@ -50,7 +50,7 @@ pub(crate) enum Did {
     // A change of the name failed.
     Failing(Named),
     // A sync succeeded.
-    Synced,
+    Settled,
     // Bytes were said, after so many others.
     Said(usize),
     // These bytes weren't said, since the call failed.

@@ -34,9 +34,9 @@ impl Model for MemShelf {
     ghost coded = { shelf_memory_code };
 
     ghost view = { λ s. record {
-        shelf = record { repositories = s.repos.items; faults = s.faults; absences = s.absences };
-        calls = s.calls;
-        failing = s.failing.items;
+      shelf = record { repositories = s.repos.items; faults = s.faults; absences = s.absences };
+      calls = s.calls;
+      failing = s.failing.items;
     } };
 }
 
@@ -46,9 +46,9 @@ impl MemShelf {
     /// has.
     pub fn new(alloc: Global, repos: Vec<Vec<FileBytes>>) -> Result<MemShelf, MemError>
         ensures made { IfOk result (λ shelf. shelf ≡ record {
-            shelf = record { repositories = map (λ files. given files.items) repos.items; faults = 0; absences = 0 };
-            calls = 0;
-            failing = [];
+          shelf = record { repositories = map (λ files. given files.items) repos.items; faults = 0; absences = 0 };
+          calls = 0;
+          failing = [];
         }) }
         ensures apart { OnOk result (EachApart repos.items) }
         ensures refused { IfErr result (IsShelfRefusal repos.items) }

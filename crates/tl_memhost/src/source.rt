@@ -27,9 +27,9 @@ impl Model for MemSource {
     ghost coded = { source_memory_code };
 
     ghost view = { λ s. record {
-        source = record { left = drop s.taken s.bytes.items; faults = s.faults };
-        calls = s.calls;
-        failing = s.failing.items;
+      source = record { left = drop s.taken s.bytes.items; faults = s.faults };
+      calls = s.calls;
+      failing = s.failing.items;
     } };
 
     ghost invariant = { λ s. s.taken ≤ length s.bytes.items };

@@ -1,4 +1,4 @@
-use Rattle.std.proofs.Common.{◌≡◌, ◌≤◌, ℕ, List, length}
+use Rattle.std.proofs.Common.{◌≤◌, ℕ, List, length}
 use Rattle.tl_memhost.proofs.Back.{IsBack}
 use Rattle.tl_memhost.proofs.stop.go_back.Given as goal
 

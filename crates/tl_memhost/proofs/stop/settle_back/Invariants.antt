@@ -1,4 +1,4 @@
-use Rattle.std.proofs.Common.{◌≡◌, ◌≤◌, List, length, take, reverse}
+use Rattle.std.proofs.Common.{◌≡◌, ◌≤◌, length, take, reverse}
 use Rattle.tl_memhost.specs.Record.{settled_of}
 use Rattle.tl_memhost.proofs.stop.settle_back.Given as goal
 

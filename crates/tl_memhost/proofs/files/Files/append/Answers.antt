@@ -1,9 +1,9 @@
-use Rattle.std.proofs.Common.{◌≡◌, ◌∙◌, ◌++◌, [], ℕ, sym, ap, subst, List, Option, Some, None, length, refl}
-use Rattle.std.specs.Option.{unwrap_or, IsSome}
+use Rattle.std.proofs.Common.{◌≡◌, ◌∙◌, ◌++◌, [], ℕ, sym, ap, subst, List, Option, Some, length}
+use Rattle.std.specs.Option.{unwrap_or}
 use Rattle.std.specs.FinMap as map
-use Rattle.tl_model.specs.Volume.{Volume, at}
-use Rattle.tl_memhost.specs.Held.{Bytes, volume_of, ArePaths}
-use Rattle.tl_memhost.proofs.Held.{contents, at-volume_of, at_found, at_missed, absent_not_there, written, insert-same, paths-set_value}
+use Rattle.tl_model.specs.Volume.{at}
+use Rattle.tl_memhost.specs.Held.{ArePaths}
+use Rattle.tl_memhost.proofs.Held.{at_found, at_missed, absent_not_there, written, insert-same, paths-set_value}
 use Rattle.tl_memhost.proofs.files.Files.append.Goals as goal
 
 pub invariant_of-self : goal.invariant_of-self

@@ -1,10 +1,10 @@
-use Rattle.std.proofs.Common.{◌≡◌, ◌∙◌, ℕ, sym, ap, subst, List, Option, Some, None, take, MatchOption, refl}
+use Rattle.std.proofs.Common.{◌≡◌, ◌∙◌, ℕ, sym, ap, subst, List, Option, Some, None}
 use Rattle.std.specs.BTreeMap.{BTreeMap}
 use Rattle.std.specs.FinMap as map
-use Rattle.tl_model.specs.Volume.{Volume, at}
+use Rattle.tl_model.specs.Volume.{at}
 use Rattle.tl_memhost.specs.Held.{Bytes, volume_of, ArePaths}
 use Rattle.tl_memhost.specs.Record.{cut}
-use Rattle.tl_memhost.proofs.Held.{at_found, at_missed, written, insert-same, paths-set_value}
+use Rattle.tl_memhost.proofs.Held.{at_found, at_missed, written, paths-set_value}
 use Rattle.tl_memhost.proofs.files.Files.cut.Goals as goal
 
 pub invariant_of-self : goal.invariant_of-self

@@ -1,7 +1,7 @@
-use Rattle.std.proofs.Common.{◌∙◌, sym, ap, subst, List}
+use Rattle.std.proofs.Common.{◌∙◌, sym, ap, subst}
 use Rattle.std.specs.FinMap as map
 use Rattle.tl_model.specs.Volume.{Volume, at}
-use Rattle.tl_memhost.specs.Held.{Bytes, volume_of, ArePaths}
+use Rattle.tl_memhost.specs.Held.{volume_of, ArePaths}
 use Rattle.tl_memhost.proofs.Held.{contents, at-volume_of, volume_of-insert_entry, paths-insert_entry}
 use Rattle.tl_memhost.proofs.files.Files.insert.Goals as goal
 

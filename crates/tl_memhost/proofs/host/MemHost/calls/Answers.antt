@@ -1,6 +1,6 @@
-use Rattle.std.proofs.Common.{◌≡◌, ◌+◌, ◌-◌, ◌^◌, ◌<◌, ◌∙◌, sym, ap, subst}
+use Rattle.std.proofs.Common.{◌+◌, ◌∙◌, sym, ap}
 use Rattle.tl_model.specs.Seen.{moment}
-use Rattle.tl_memhost.specs.Memory.{Memory, IsCounted, seen}
+use Rattle.tl_memhost.specs.Memory.{Memory, seen}
 use Rattle.tl_memhost.proofs.Counted.{calls_counted}
 use Rattle.tl_memhost.proofs.host.MemHost.calls.Goals as goal
 

@@ -1,13 +1,10 @@
-use Rattle.std.proofs.Common.{◌≡◌, ◌∙◌, ℕ, List, [], ◌∷◌, ◌++◌, sym, ap, subst, arith, length}
-use Rattle.std.specs.Option.{unwrap_or, IsSome}
+use Rattle.std.proofs.Common.{◌≡◌, ◌∙◌, List, [], ◌∷◌, ◌++◌, ap, arith}
 use Rattle.std.specs.FinMap as map
-use Rattle.tl_model.specs.Causes.{one_more}
-use Rattle.tl_model.specs.Volume.{Name, Volume, SameBut, at, at-remove_apart}
+use Rattle.tl_model.specs.Volume.{Volume, SameBut, at, at-remove_apart}
 use Rattle.tl_memhost.specs.Memory.{Memory, changed}
 use Rattle.tl_memhost.specs.Record.{memory}
-use Rattle.tl_memhost.specs.declared.record.Did.TheVariants.{Put, Grown}
+use Rattle.tl_memhost.specs.declared.record.Did.TheVariants.{Put}
 use Rattle.tl_memhost.specs.declared.record.Entry.{Entry}
-use Rattle.tl_memhost.proofs.Held.{contents}
 use Rattle.tl_memhost.proofs.Entered.{entry, put_entered, counted_changed}
 use Rattle.tl_memhost.proofs.host.MemHost.clear.Goals as goal
 

@@ -1,6 +1,5 @@
-use Rattle.std.proofs.Common.{◌≡◌, ◌∙◌, ℕ, List, [], ◌∷◌, ◌++◌, sym, ap, subst, arith}
+use Rattle.std.proofs.Common.{◌≡◌, ◌∙◌, List, [], ◌∷◌, ◌++◌, ap, arith}
 use Rattle.std.specs.FinMap as map
-use Rattle.tl_model.specs.Causes.{one_more}
 use Rattle.tl_model.specs.Volume.{Name, Volume, SameBut, at, at-insert_apart}
 use Rattle.tl_memhost.specs.Memory.{Memory, changed}
 use Rattle.tl_memhost.specs.Record.{memory}

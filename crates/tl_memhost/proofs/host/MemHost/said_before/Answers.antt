@@ -1,6 +1,5 @@
-use Rattle.std.proofs.Common.{◌≡◌, ◌∙◌, ◌+◌, ◌-◌, ◌<◌, ◌≤◌, suc, ℕ, List, length, sym, ap, subst, arith, refl}
+use Rattle.std.proofs.Common.{◌≡◌, ◌∙◌, ◌-◌, ◌<◌, ◌≤◌, suc, ℕ, length, sym, ap, subst, arith}
 use Rattle.std.proofs.lemmas.Bool.{le-leb, lt-leb}
-use Rattle.std.specs.Vec.{vec_len}
 use Rattle.tl_memhost.specs.Memory.{Memory, Standing, before_call}
 use Rattle.tl_memhost.specs.Record.{unheld, unsaid}
 use Rattle.tl_memhost.proofs.Back.{IsBack, back_start, back_step, back_stop}

@@ -1,4 +1,4 @@
-use Rattle.std.proofs.Common.{◌≡◌, ◌∙◌, ◌∷◌, ◌++◌, List, Vec, ap}
+use Rattle.std.proofs.Common.{◌∙◌, ◌++◌, List, Vec, ap}
 use Rattle.std.specs.declared.alloc.Global.{Global}
 use Rattle.tl_memhost.specs.declared.given.FileBytes.{FileBytes}
 use Rattle.tl_memhost.proofs.Apart.{shelf_refusal}
