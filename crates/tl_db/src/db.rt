@@ -30,7 +30,9 @@ impl Db {
     pub fn new(alloc: Global) -> Db
         ensures { result ≡ [] }
     {
-        Db { objects: Vec::new(alloc) }
+        Db {
+            objects: Vec::new(alloc),
+        }
     }
 
     /// How many entries it has. Takes no memory.
@@ -71,7 +73,9 @@ impl Db {
     pub fn entries(&self) -> Entries<'_>
         ensures { result.rest.now ≡ self.now }
     {
-        Entries { rest: self.objects.as_slice() }
+        Entries {
+            rest: self.objects.as_slice(),
+        }
     }
 }
 
