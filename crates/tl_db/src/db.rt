@@ -4,7 +4,7 @@ ghost use Rattle.std.specs.Iterator.{YieldsFirstRef, item_count};
 ghost use Rattle.tl_model.specs.Volume.{same_name};
 ghost use Rattle.tl_object.specs.declared.object.Object.{Object};
 ghost use Rattle.tl_object.specs.Rising.{is_rising, has_key, insert_by};
-ghost use Rattle.tl_db.specs.Entries.{entry_of};
+ghost use Rattle.tl_db.specs.Entries.{entry_of, others};
 
 use std::alloc::{AllocError, Global};
 use std::cmp::Ordering;
@@ -100,6 +100,20 @@ impl Db {
         match place_of(self.objects.as_slice(), name.bytes()) {
             Some(at) => Some(&self.objects[at]),
             None => None,
+        }
+    }
+
+    /// Leaves out the entry with this name, and says whether it was there. Takes no memory.
+    pub fn without(&mut self, name: &Name) -> bool
+        ensures left { self.new ≡ others name.now self.old }
+        ensures there { result ≡ has_key (λ o. o.name) name.now self.old }
+    {
+        match place_of(self.objects.as_slice(), name.bytes()) {
+            Some(at) => {
+                let _ = self.objects.remove(at);
+                true
+            }
+            None => false,
         }
     }
 
