@@ -1,9 +1,9 @@
 -- The one element with a key among elements that rise by their keys.
-use Rattle.std.proofs.Common.{◌≡◌, ℕ, zero, suc, ◌<◌, Bool, true, false, cond, ◌&&◌, ◌||◌, not, List, [], ◌∷◌, ◌++◌, length, get_or, take, drop, Option, Some, None, refl, sym, ap, subst, ◌∙◌, arith}
-use Rattle.std.specs.Prelude.{find, filter}
+use Rattle.std.proofs.Common.{◌≡◌, ℕ, zero, suc, ◌<◌, Bool, true, false, cond, ◌&&◌, ◌||◌, not, List, [], ◌∷◌, ◌++◌, length, get_or, set, take, drop, Option, Some, None, Result, Ok, Err, refl, sym, ap, subst, ◌∙◌, arith}
+use Rattle.std.specs.Prelude.{find, filter, OnOk}
 use Rattle.tl_model.specs.Volume.{same_name, same_name-is}
-use Rattle.tl_object.specs.Rising.{comes_before, has_key, is_rising, is_rising_after}
-use Rattle.tl_object.proofs.RisingLemmas.{before_trans, before_apart, before_apart_back, present_at}
+use Rattle.tl_object.specs.Rising.{comes_before, insert_by, has_key, is_rising, is_rising_after}
+use Rattle.tl_object.proofs.RisingLemmas.{before_trans, before_not, before_apart, before_apart_back, present_at, rising-insert}
 
 both : (a b : Bool) → (a && b) ≡ true → (a ≡ true) × (b ≡ true)
 both true b e = (refl, e)
@@ -115,7 +115,7 @@ module _ {A : Type 0} (key : A → List ℕ) where
       → ((e : A) → same_name (key (get_or items i e)) given ≡ true) → new ≡ take i xs ++ drop (suc i) xs → Left wanted xs new
   left_out wanted given xs items new i d same is up lt has after =
       let here : same_name (key (get_or xs i d)) wanted ≡ true =
-          subst (λ (w : List ℕ). same_name (key (get_or xs i d)) w ≡ true) is (subst (λ (ys : List A). same_name (key (get_or ys i d)) given ≡ true) same (has d)) in
+      subst (λ (w : List ℕ). same_name (key (get_or xs i d)) w ≡ true) is (subst (λ (ys : List A). same_name (key (get_or ys i d)) given ≡ true) same (has d)) in
       let within : i < length xs = subst (λ (ys : List A). i < length ys) same lt in
       let e : new ≡ filter (is_other wanted) xs = after ∙ remove_at wanted xs i d up within here in
       record { there = present_at key wanted xs i d within here; same = e; rising = subst (λ (ys : List A). is_rising key ys ≡ true) (sym e) (rising-filter (is_other wanted) xs up) }
@@ -124,3 +124,57 @@ module _ {A : Type 0} (key : A → List ℕ) where
   nothing_left_out wanted given xs items same is none =
       let gone : has_key key wanted xs ≡ false = subst (λ (w : List ℕ). has_key key w xs ≡ false) is (subst (λ (ys : List A). has_key key given ys ≡ false) same none) in
       (gone, sym (filter_none wanted xs gone))
+
+  insert_first : (x y : A) (ys : List A) → is_rising_after key y ys ≡ true → key y ≡ key x → insert_by key x ys ≡ x ∷ ys
+  insert_first x y [] up is = refl
+  insert_first x y (z ∷ zs) up is =
+      let lt : comes_before (key x) (key z) ≡ true = subst (λ (k : List ℕ). comes_before k (key z) ≡ true) is (both _ _ up).0 in
+      ap (λ t. cond t (x ∷ z ∷ zs) (z ∷ insert_by key x zs)) lt
+
+  -- an element in the place of the one with its key
+  pub set_at : (x : A) (xs : List A) (i : ℕ) (d : A) → is_rising key xs ≡ true → i < length xs → same_name (key (get_or xs i d)) (key x) ≡ true
+      → set xs i x ≡ insert_by key x (filter (is_other (key x)) xs)
+  set_at x [] i d up lt is = absurd (omega arith)
+  set_at x (y ∷ ys) zero d up lt is =
+      let same : key y ≡ key x = same_name-is _ _ is in
+      let rest : filter (is_other (key x)) (y ∷ ys) ≡ ys =
+      ap (λ t. cond (not t) (y ∷ filter (is_other (key x)) ys) (filter (is_other (key x)) ys)) is ∙ filter_none (key x) ys (none_after (key x) y ys same up) in
+      sym (ap (insert_by key x) rest ∙ insert_first x y ys up same)
+  set_at x (y ∷ ys) (suc i) d up lt is =
+      let here : key (get_or ys i d) ≡ key x = same_name-is _ _ is in
+      let less : comes_before (key y) (key x) ≡ true = subst (λ (k : List ℕ). comes_before (key y) k ≡ true) here (rising_far y ys i d up (omega arith)) in
+      let kept : filter (is_other (key x)) (y ∷ ys) ≡ y ∷ filter (is_other (key x)) ys =
+      ap (λ t. cond (not t) (y ∷ filter (is_other (key x)) ys) (filter (is_other (key x)) ys)) (before_apart (key y) (key x) less) in
+      ap (λ (zs : List A). y ∷ zs) (set_at x ys i d (tail_rising y ys up) (omega arith) is)
+      ∙ sym (ap (insert_by key x) kept ∙ ap (λ t. cond t (x ∷ y ∷ filter (is_other (key x)) ys) (y ∷ insert_by key x (filter (is_other (key x)) ys))) (before_not (key y) (key x) less))
+
+  filter_gone : (wanted : List ℕ) (xs : List A) → has_key key wanted (filter (is_other wanted) xs) ≡ false
+  filter_gone wanted [] = refl
+  filter_gone wanted (x ∷ xs) = kept_gone (same_name (key x) wanted) refl (filter_gone wanted xs)
+    where
+      kept_gone : (t : Bool) → same_name (key x) wanted ≡ t → has_key key wanted (filter (is_other wanted) xs) ≡ false
+          → has_key key wanted (cond (not t) (x ∷ filter (is_other wanted) xs) (filter (is_other wanted) xs)) ≡ false
+      kept_gone true is rest = rest
+      kept_gone false is rest = ap (λ t. t || has_key key wanted (filter (is_other wanted) xs)) is ∙ rest
+
+  pub record Replaced (x : A) (xs new : List A) : Type 0 where
+    pub same : new ≡ insert_by key x (filter (is_other (key x)) xs)
+    pub rising : is_rising key new ≡ true
+
+  pub replaced : (x : A) (given : List ℕ) (xs items new : List A) (i : ℕ) → items ≡ xs → given ≡ key x → is_rising key xs ≡ true → i < length items
+      → ((e : A) → same_name (key (get_or items i e)) given ≡ true) → new ≡ set xs i x → Replaced x xs new
+  replaced x given xs items new i same is up lt has after =
+      let here : same_name (key (get_or xs i x)) (key x) ≡ true =
+      subst (λ (w : List ℕ). same_name (key (get_or xs i x)) w ≡ true) is (subst (λ (ys : List A). same_name (key (get_or ys i x)) given ≡ true) same (has x)) in
+      let within : i < length xs = subst (λ (ys : List A). i < length ys) same lt in
+      let e : new ≡ insert_by key x (filter (is_other (key x)) xs) = after ∙ set_at x xs i x up within here in
+      record { same = e; rising = subst (λ (ys : List A). is_rising key ys ≡ true) (sym e) (rising-insert key x _ (rising-filter (is_other (key x)) xs up) (filter_gone (key x) xs)) }
+
+  pub added : (x : A) (given : List ℕ) (xs items : List A) → items ≡ xs → given ≡ key x → has_key key given items ≡ false → xs ≡ filter (is_other (key x)) xs
+  added x given xs items same is none = (nothing_left_out (key x) given xs items same is none).1
+
+  -- an element that was added where no other has its key
+  pub put_in : (x : A) (given : List ℕ) (xs items : List A) {E : Type 0} (r : Result (Unit {0}) E) (new : List A) → items ≡ xs → given ≡ key x → has_key key given items ≡ false
+      → OnOk r (new ≡ insert_by key x xs) → OnOk r (new ≡ insert_by key x (filter (is_other (key x)) xs))
+  put_in x given xs items (Ok u) new same is none after = after ∙ ap (insert_by key x) (added x given xs items same is none)
+  put_in x given xs items (Err e) new same is none after = tt

@@ -1,5 +1,5 @@
 //! Entries by name.
-ghost use Rattle.std.specs.Prelude.{◌≡◌, ◌<◌, ◌≤◌, List, [], true, false, OnOk, MatchOption, length, slice_index_or, option_copied};
+ghost use Rattle.std.specs.Prelude.{◌≡◌, ◌<◌, ◌≤◌, List, [], true, false, OnOk, OnErr, MatchOption, length, slice_index_or, option_copied};
 ghost use Rattle.std.specs.Iterator.{YieldsFirstRef, item_count};
 ghost use Rattle.tl_model.specs.Volume.{same_name};
 ghost use Rattle.tl_object.specs.declared.object.Object.{Object};
@@ -84,7 +84,8 @@ impl Db {
     /// Adds an entry whose name no entry has.
     pub(crate) fn add(&mut self, object: Object) -> Result<(), AllocError>
         requires { has_key (λ o. o.name) object.name self.old ≡ false }
-        ensures { OnOk result (self.new ≡ insert_by (λ o. o.name) object self.old) }
+        ensures ok { OnOk result (self.new ≡ insert_by (λ o. o.name) object self.old) }
+        ensures err { OnErr result (self.new ≡ self.old) }
     {
         let Some(at) = place_for(self.objects.as_slice(), object.key()) else {
             unreachable!()
@@ -100,6 +101,20 @@ impl Db {
         match place_of(self.objects.as_slice(), name.bytes()) {
             Some(at) => Some(&self.objects[at]),
             None => None,
+        }
+    }
+
+    /// Puts an entry in the place of the one with its name, or among the others. Where memory runs out nothing changes.
+    pub fn with(&mut self, object: Object) -> Result<(), AllocError>
+        ensures ok { OnOk result (self.new ≡ insert_by (λ o. o.name) object (others object.name self.old)) }
+        ensures err { OnErr result (self.new ≡ self.old) }
+    {
+        match place_of(self.objects.as_slice(), object.key()) {
+            Some(at) => {
+                self.objects[at] = object;
+                Ok(())
+            }
+            None => self.add(object),
         }
     }
 

@@ -1,7 +1,8 @@
 use super::*;
 use std::alloc::Global;
 use std::test::*;
-use tl_object::LineKind;
+use tl_object::{LineKind, read_object};
+use tl_path::Name;
 
 fn written(alloc: Global, text: &[u8]) -> Result<Vec<u8>, DbError> {
     let db = read_db(alloc, text)?;
@@ -62,4 +63,21 @@ fn the_first_bad_line_is_found(rt: HostRuntime) {
         bad_line_of(alloc, b"name a\n\nrevision 1\n"),
         Some((3, LineKind::Missing))
     );
+}
+
+#[test]
+fn entries_are_found_replaced_and_left_out_by_name(rt: HostRuntime) -> Result<(), Fail> {
+    let alloc = rt.alloc();
+    let name = Name::parse(alloc, b"b")?;
+    let mut db = read_db(alloc, b"name a\n\nname b\nrevision 1\n\nname c\n")?;
+    assert_eq!(rt; db.get(&name).map(|o| o.revision), Some(1));
+    let other = read_object(alloc, b"name b\nrevision 2\n")?;
+    db.with(other)?;
+    assert_eq!(rt; db.get(&name).map(|o| o.revision), Some(2));
+    assert_eq!(rt; db.len(), 3);
+    assert!(rt; db.without(&name));
+    assert!(rt; !db.without(&name));
+    assert_eq!(rt; db.get(&name).map(|o| o.revision), None);
+    assert_eq!(rt; db.len(), 2);
+    Ok(())
 }

@@ -10,7 +10,7 @@ invariant_of-self c =
 pub returns-in-Some-clause-left : goal.returns-in-Some-clause-left
 returns-in-Some-clause-left c =
     let left = left_out name c.args.name.now c.bytes.result.now c.self.inside.objects.items c.as_slice.result.now c.remove.new.self.items c.in-Some.at c.remove.result
-        c.as_slice.ensures.value c.bytes.ensures.bytes c.self.invariant c.in-Some.ensures.0 c.in-Some.ensures.1 c.remove.ensures.items in
+    c.as_slice.ensures.value c.bytes.ensures.bytes c.self.invariant c.in-Some.ensures.0 c.in-Some.ensures.1 c.remove.ensures.items in
     rw (← c.self.view_is) left.same
 
 pub returns-in-None-clause-left : goal.returns-in-None-clause-left
