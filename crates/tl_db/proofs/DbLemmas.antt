@@ -38,8 +38,8 @@ pub db-more : (total : Result (List Object) Fault) (objects : List Object) (now 
     → with_stretches more (stretches left) ≡ total
 db-more total objects now start left line wanted object more so_far same full named none read gone ended after =
     let step : with_stretch objects (front start) ≡ Ok more =
-        ap (with_named objects (front start)) named ∙ ap (λ t. cond t (Err (line, Repeated)) (with_object objects (as_object (entry_groups (front start))))) none
-        ∙ ap (with_object objects) read ∙ ap (λ (os : List Object). Ok os) (sym after) in
+    ap (with_named objects (front start)) named ∙ ap (λ t. cond t (Err (line, Repeated)) (with_object objects (as_object (entry_groups (front start))))) none
+    ∙ ap (with_object objects) read ∙ ap (λ (os : List Object). Ok os) (sym after) in
     let rest : stretches left ≡ stretches (behind start) = stretches-empty left ended ∙ ap stretches (sym gone) in
     ap (with_stretches more) rest
     ∙ sym (ap (λ (r : Result (List Object) Fault). going_on r (λ os. with_stretches os (stretches (behind start)))) step)

@@ -4,6 +4,8 @@
 mod db;
 mod fault;
 mod read;
+#[cfg(test)]
+mod tests;
 mod write;
 
 pub use db::{Db, Entries};

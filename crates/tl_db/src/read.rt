@@ -9,6 +9,7 @@ use std::alloc::Global;
 use tl_object::{LineKind, ObjectError, next_entry, read_entry, read_entry_name};
 
 const MOST_BYTES: u64 = 268_435_456;
+
 const MOST_PACKAGES: u64 = 65_536;
 
 fn read_all(alloc: Global, text: &[u8]) -> Result<Db, ObjectError>
@@ -24,7 +25,10 @@ fn read_all(alloc: Global, text: &[u8]) -> Result<Db, ObjectError>
             Err(fault) => return Err(fault),
         };
         if db.has(named.name.bytes()) {
-            return Err(ObjectError::BadObject { line: named.line, kind: LineKind::Repeated });
+            return Err(ObjectError::BadObject {
+                line: named.line,
+                kind: LineKind::Repeated,
+            });
         }
         let entry = match read_entry(alloc, before, start) {
             Ok(entry) => entry,
@@ -44,15 +48,24 @@ pub fn read_db(alloc: Global, text: &[u8]) -> Result<Db, DbError>
     ensures { MatchResult result (IsRead text.now) (IsDbError text.now) }
 {
     if text.len() as u64 > MOST_BYTES {
-        return Err(DbError::TooLarge { what: What::Database, limit: MOST_BYTES });
+        return Err(DbError::TooLarge {
+            what: What::Database,
+            limit: MOST_BYTES,
+        });
     }
     let db = match read_all(alloc, text) {
         Ok(db) => db,
-        Err(ObjectError::BadObject { line, kind }) => return Err(DbError::BadDatabase { line, kind }),
+        Err(ObjectError::BadObject { line, kind }) => return Err(DbError::BadDatabase {
+            line,
+            kind,
+        }),
         Err(ObjectError::NoMemory) => return Err(DbError::NoMemory),
     };
     if db.len() as u64 > MOST_PACKAGES {
-        return Err(DbError::TooLarge { what: What::Packages, limit: MOST_PACKAGES });
+        return Err(DbError::TooLarge {
+            what: What::Packages,
+            limit: MOST_PACKAGES,
+        });
     }
     Ok(db)
 }

@@ -95,7 +95,12 @@ fn put_digest(out: &mut Vec<u8>, key: &[u8], digest: &Option<[u8; 64]>) -> Resul
     }
 }
 
-fn put_container(out: &mut Vec<u8>, size_key: &[u8], digest_key: &[u8], container: &Container) -> Result<(), AllocError>
+fn put_container(
+    out: &mut Vec<u8>,
+    size_key: &[u8],
+    digest_key: &[u8],
+    container: &Container,
+) -> Result<(), AllocError>
     ensures { OnOk result (out.new.items ≡ out.old.items ++ container_lines size_key.now digest_key.now container.now) }
 {
     put_size(out, size_key, container.size)?;
@@ -180,7 +185,12 @@ fn put_doc(out: &mut Vec<u8>, doc: &DocFiles) -> Result<(), AllocError>
     put_doc_files(out, files)
 }
 
-fn put_section_behind(out: &mut Vec<u8>, word: &[u8], key: &[u8], blocks: u64) -> Result<(), AllocError>
+fn put_section_behind(
+    out: &mut Vec<u8>,
+    word: &[u8],
+    key: &[u8],
+    blocks: u64,
+) -> Result<(), AllocError>
     ensures { OnOk result (out.new.items ≡ out.old.items ++ (word.now ++ section_line key.now blocks)) }
 {
     out.extend_from_slice(word)?;
@@ -264,9 +274,19 @@ fn put_all_files(out: &mut Vec<u8>, object: &Object) -> Result<(), AllocError>
     ensures { OnOk result (out.new.items ≡ out.old.items ++ file_lines object.now) }
 {
     put_container(out, b"containersize", b"containerchecksum", &object.run_box)?;
-    put_container(out, b"doccontainersize", b"doccontainerchecksum", &object.doc_box)?;
+    put_container(
+        out,
+        b"doccontainersize",
+        b"doccontainerchecksum",
+        &object.doc_box,
+    )?;
     put_doc(out, &object.doc)?;
-    put_container(out, b"srccontainersize", b"srccontainerchecksum", &object.src_box)?;
+    put_container(
+        out,
+        b"srccontainersize",
+        b"srccontainerchecksum",
+        &object.src_box,
+    )?;
     put_files(out, b"srcfiles", &object.src)?;
     put_files(out, b"runfiles", &object.run)?;
     put_bins(out, object.bin.as_slice())

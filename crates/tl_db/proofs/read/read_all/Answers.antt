@@ -35,7 +35,7 @@ loop-before-preserved c =
     let entry = c.in-Ok-read_entry.entry in let read = c.in-Ok-read_entry.ensures in
     record {
       same = db-more (db_of c.args.text.now) c.loop-before.db (content c.loop-before.number c.loop-before.rest.now) (content c.in-Some.before c.in-Some.start.now) (content entry.number entry.rest.now)
-        c.in-Ok.named.line c.in-Ok.named.name entry.object c.add.new.self
-        c.loop-before.invariant.same c.in-Some.ensures.same c.in-Some.ensures.full c.in-Ok.ensures.name none read.object read.left read.ended c.in_ok-add.ensures;
+          c.in-Ok.named.line c.in-Ok.named.name entry.object c.add.new.self
+          c.loop-before.invariant.same c.in-Some.ensures.same c.in-Some.ensures.full c.in-Ok.ensures.name none read.object read.left read.ended c.in_ok-add.ensures.ok;
       fits = omega (arith, c.loop-before.invariant.fits, c.in-Some.ensures.fits, read.fits);
     }
