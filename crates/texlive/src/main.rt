@@ -1,7 +1,6 @@
 //! The program: it makes the real devices, calls the top call over them and ends with its status.
 #![tactic(auto)]
 
-use std::alloc::{AllocError, Global};
 use std::fs::File;
 use std::io::{ErrorKind, Write};
 use std::process::ExitCode;
@@ -9,15 +8,7 @@ use std::rt::{Env, Files};
 use std::{env, io};
 use tl_real::FolderHost;
 use tl_tool::{Ending, texlive};
-
-const USAGE: &[u8] = b"usage: texlive ROOT dump-tlpdb --local
-       texlive --help
-       texlive --version
-
-ROOT is the folder of an installed tree. dump-tlpdb prints its package database.
-
-Status: 0 done, 1 refused, 2 faulty command line, 3 a fault of a device, 4 want of memory.
-";
+use tl_words::usage;
 
 const VERSION: &[u8] = b"texlive 0.1.0\n";
 
@@ -58,9 +49,17 @@ fn words<R: Env + AllocGlobal>(rt: &R) -> io::Result<Vec<Vec<u8>>> {
 // Answers the program's own options, or carries a command out.
 fn answer<R: Files<File = File> + Print + Eprint + AllocGlobal>(rt: &R, words: Vec<Vec<u8>>) -> u8 {
     match words.as_slice() {
-        [word] if word.as_slice() == b"--help".as_slice() => print(rt, USAGE, DONE),
+        [word] if word.as_slice() == b"--help".as_slice() => help(rt),
         [word] if word.as_slice() == b"--version".as_slice() => print(rt, VERSION, DONE),
         words => command(rt, words),
+    }
+}
+
+// Prints how the program is called.
+fn help<R: Print + Eprint + AllocGlobal>(rt: &R) -> u8 {
+    match usage(rt.alloc()) {
+        Ok(text) => print(rt, text.as_bytes(), DONE),
+        Err(_) => want_of_memory(rt),
     }
 }
 

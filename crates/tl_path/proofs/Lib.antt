@@ -5,3 +5,4 @@ pub mod Words
 pub mod Parts
 pub mod Listed
 pub mod Listing
+pub mod Spelling

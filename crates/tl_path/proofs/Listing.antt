@@ -1,7 +1,7 @@
 -- A text whose words are read one after the other.
-use Rattle.std.proofs.Common.{◌≡◌, ℕ, ◌+◌, ◌<◌, ◌≤◌, Bool, true, false, cond, List, [], ◌∷◌, ◌++◌, length, drop, filter, Some, IsPermutation, IsSorted, nat_cmp, refl, sym, ap, subst, ◌∙◌, arith, suc, zero, add-one, append_assoc, length-append, true≢false}
+use Rattle.std.proofs.Common.{◌≡◌, ℕ, ◌+◌, true, false, cond, List, [], ◌∷◌, ◌++◌, length, drop, filter, Some, IsPermutation, IsSorted, nat_cmp, refl, sym, ap, subst, ◌∙◌, arith, suc, zero, add-one, append_assoc, length-append}
 use Rattle.std.specs.Prelude.{slice_get, ◌==◌}
-use Rattle.std.specs.List.{slice_split, sum_by}
+use Rattle.std.specs.List.{slice_split}
 use Rattle.std.specs.Cmp.Lexicographic.{slice_cmp}
 use Rattle.std.proofs.lemmas.List.{append-nil}
 use Rattle.std.proofs.lemmas.List.Sums.{sum_by-cons}

@@ -1,6 +1,5 @@
 -- The parts of a text between its blanks, and where its words begin.
-use Rattle.std.proofs.Common.{◌≡◌, ℕ, ◌+◌, ◌<◌, ◌≤◌, Bool, true, false, cond, List, [], ◌∷◌, ◌++◌, length, take, drop, filter, Option, Some, None, refl, sym, ap, ◌∙◌, nat_lt, arith, nat_eq, suc, zero}
-use Rattle.std.specs.Prelude.{slice_get}
+use Rattle.std.proofs.Common.{◌≡◌, ℕ, ◌+◌, ◌<◌, ◌≤◌, Bool, true, false, cond, List, [], ◌∷◌, length, take, drop, Option, Some, None, refl, sym, nat_lt, arith, suc}
 use Rattle.std.specs.List.{position, position_or_len, onto_first, sum_by, slice_split}
 use Rattle.std.specs.Option.{MatchOption}
 use Rattle.std.specs.Str.{IsUtf8}
@@ -11,7 +10,6 @@ use Rattle.std.proofs.lemmas.List.Splits.{slice_split_none, slice_split_first}
 use Rattle.std.proofs.lemmas.List.Elements.{All-from_get_or}
 use Rattle.tl_path.specs.Bytes.{is_blank, is_lower_or_digit, is_of_platform}
 use Rattle.tl_path.specs.Names.{is_platform}
-use Rattle.tl_path.specs.Platforms.{places_from}
 use Rattle.tl_path.proofs.Words.{word_utf8, is_of_platform-small}
 
 pub platform_utf8 : (text : List ℕ) → is_platform text ≡ true → IsUtf8 text

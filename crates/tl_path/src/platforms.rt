@@ -1,7 +1,9 @@
 // Some platforms, as of a tree.
-ghost use Rattle.std.specs.Prelude.{◌≡◌, ◌<◌, ◌^◌, ◌++◌, [], ◌∷◌, length, slice_get, true, MatchBool, MatchResult, OnOk, bytes_eq};
+ghost use Rattle.std.specs.Prelude.{◌≡◌, ◌<◌, ◌^◌, ◌++◌, [], ◌∷◌, length, slice_get, nat_eq, true, MatchBool, MatchResult, OnOk, bytes_eq, Some};
 ghost use Rattle.std.specs.Option.{option_copied};
-ghost use Rattle.std.specs.List.{list_any};
+ghost use Rattle.std.specs.Cmp.{partial_equiv_from_equiv};
+ghost use Rattle.std.specs.Cmp.Lexicographic.{pointwise, nat_list_eq_equiv, lists_equiv};
+ghost use Rattle.std.specs.List.{join_with_byte, list_any};
 ghost use Rattle.tl_path.specs.Names.{is_platform};
 ghost use Rattle.tl_path.specs.Platforms.{ArePlatforms, ArePlatformsInOrder, AreListed};
 ghost use Rattle.tl_path.specs.Errors.{IsPlatformsErrorOf};
@@ -9,6 +11,7 @@ ghost use Rattle.tl_path.specs.Errors.{IsPlatformsErrorOf};
 use crate::error::PlatformsError;
 use crate::platform::{Parts, Platform, is_platform};
 use std::alloc::{AllocError, Global};
+use std::fmt;
 use std::marker::Model;
 
 /// Up to 32 platforms in the order of their bytes, no two the same. A platform is 1 to 32 lower case letters of ASCII,
@@ -42,7 +45,7 @@ impl Platforms {
     }
 
     /// Reads distinct platforms that blanks part, in any order. `BadPlatforms` is the place of the first word that is
-    /// no platform, repeats one before it or is the 33rd. `NoMemory` comes only where the words before are platforms.
+    /// no platform, repeats one before it or is the 33rd. `NoMemory` says nothing of the text.
     pub fn parse(alloc: Global, text: &[u8]) -> Result<Platforms, PlatformsError>
         requires { length text.now < 2 ^ 32 }
         ensures { MatchResult result (AreListed text.now) (IsPlatformsErrorOf text.now) }
@@ -89,6 +92,35 @@ impl Clone for Platforms {
         Ok(Platforms {
             names: self.names.clone()?,
         })
+    }
+}
+
+impl PartialEq for Platforms {
+    ghost eq = { pointwise (pointwise nat_eq) };
+
+    ghost laws = { partial_equiv_from_equiv (lists_equiv nat_list_eq_equiv) };
+
+    fn eq(&self, other: &Platforms) -> bool {
+        self.names == other.names
+    }
+}
+
+impl Eq for Platforms {
+    ghost laws = { lists_equiv nat_list_eq_equiv };
+}
+
+// The platforms, joined by one space.
+impl fmt::Display for Platforms {
+    ghost output = { λ names. Some (join_with_byte 32 names) };
+
+    fn fmt<W: fmt::Write>(&self, f: &mut fmt::Formatter<W>) -> fmt::Result {
+        if let [first, rest @ ..] = self.names.as_slice() {
+            f.write_str(first.text())?;
+            for name in rest {
+                write!(f, " {}", name.text())?;
+            }
+        }
+        Ok(())
     }
 }
 

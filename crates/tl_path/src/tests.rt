@@ -190,6 +190,11 @@ fn platforms_are_kept_in_order(rt: HostRuntime) -> Result<(), Fail> {
     assert_eq!(rt; same.get(1), Some(b"windows".as_slice()));
     assert_eq!(rt; same.get(2), Some(b"x86_64-linux".as_slice()));
     assert_eq!(rt; same.get(3), None);
+    assert!(rt; same == platforms);
+    assert_eq!(rt;
+        format!(in rt.alloc(); "{platforms}")?.as_str(),
+        "armhf-linux windows x86_64-linux"
+    );
     assert_eq!(rt; Platforms::parse(rt.alloc(), b"\t ")?.len(), 0);
     assert_eq!(rt; Platforms::none(rt.alloc()).get(0), None);
     Ok(())

@@ -1,43 +1,50 @@
 -- From what was seen of a host to the run that was made.
-use Rattle.std.proofs.Common.{◌≡◌, ℕ, Bool, true, false, cond, List, [], ◌∷◌, ◌++◌, take, drop, Option, Some, None, refl, sym, ◌∙◌, ap, subst, inl, inr, append_assoc}
+use Rattle.std.proofs.Common.{min, ◌≡◌, ℕ, Bool, true, false, cond, List, [], ◌∷◌, ◌++◌, take, drop, Option, Some, None, refl, sym, ◌∙◌, ap, subst, inl, inr, append_assoc, arith}
 use Rattle.std.proofs.lemmas.List.{append-nil, take-append-drop}
 use Rattle.std.specs.Option.{is_none}
 use Rattle.tl_model.specs.Volume.{Volume, at}
 use Rattle.tl_model.specs.Seen.{Seen, Quiet, Says}
 use Rattle.tl_model.specs.Pictures.{quiet_start, quiet_join}
-use Rattle.tl_model.specs.Acks.{IsPlain, plain-literal}
+use Rattle.tl_words.specs.declared.command.Action.{Action}
+use Rattle.tl_words.specs.declared.command.Action.TheVariants.{DumpTlpdb}
+use Rattle.tl_words.specs.declared.faults.Fault.{Fault}
+use Rattle.tl_words.specs.Faults.{words_fault}
+use Rattle.tl_words.specs.Errors.{IsErrorOf}
+use Rattle.tl_words.specs.declared.error.WordKind.{WordKind}
+use Rattle.tl_words.specs.declared.error.WordsError.TheVariants.{BadWords as BadWordsError}
+use Rattle.tl_tool.proofs.Plain.{plain-unbuilt, plain-bad_words}
+use Rattle.tl_model.specs.Acks.{IsPlain}
 use Rattle.tl_model.specs.Trace.{Text, said_by, AreLines, IsFront, Pictures, Trace, Cut, Paused}
 use Rattle.tl_model.specs.Joins.{trace_start, trace_quiet, trace_join, trace_text, trace_paused, paused_longer, paused_cut, cut_join, cut_text}
 use Rattle.tl_tool.specs.declared.ending.Ending.{Ending}
 use Rattle.tl_tool.specs.declared.ending.Ending.TheVariants.{Done, Refused, HostFault, NoMemory}
 use Rattle.tl_tool.specs.declared.refusal.Refusal.{Refusal}
-use Rattle.tl_tool.specs.declared.refusal.Refusal.TheVariants.{Unbuilt}
-use Rattle.tl_tool.specs.declared.refusal.Missing.TheVariants.{Words, Journal, Form}
+use Rattle.tl_tool.specs.declared.refusal.Refusal.TheVariants.{BadWords, Unbuilt}
+use Rattle.tl_tool.specs.declared.refusal.Missing.TheVariants.{Journal, Form}
 use Rattle.tl_tool.specs.Refusals.{refusal_line}
-use Rattle.tl_tool.specs.Run.{Run, IsRun, refused, dump_of, is_dump, database}
-use Rattle.tl_tool.specs.Outcome.{Refuses, IsOutcome, IsSaid, dump_over, run_over}
+use Rattle.tl_tool.specs.Run.{Run, IsRun, refused, dump_of, action_at, by_words, database}
+use Rattle.tl_tool.specs.Outcome.{Refuses, IsOutcome, IsSaid, act_over, run_over}
 use Rattle.tl_tool.specs.Stand.{stand, gate}
-
--- a refusal's line is plain
-plain-line : (refusal : Refusal) → IsPlain (refusal_line refusal)
-plain-line (Unbuilt Words) = plain-literal _ refl refl
-plain-line (Unbuilt Journal) = plain-literal _ refl refl
-plain-line (Unbuilt Form) = plain-literal _ refl refl
 
 lines-dump_of : (bytes : Option (List ℕ)) → AreLines (dump_of bytes).events
 lines-dump_of None = tt
 lines-dump_of (Some []) = tt
-lines-dump_of (Some (b ∷ bytes)) = (plain-line (Unbuilt Form), tt)
+lines-dump_of (Some (b ∷ bytes)) = (plain-unbuilt Form, tt)
 
 lines-cond : (b : Bool) (r s : Run) → AreLines r.events → AreLines s.events → AreLines (cond b r s).events
 lines-cond true r s first other = first
 lines-cond false r s first other = other
 
+lines-act_over : (action : Option Action) (volume : Volume) → AreLines (act_over action volume).events
+lines-act_over (Some (DumpTlpdb local)) volume = lines-cond (is_none (at volume gate)) (dump_of (at volume database)) (refused (Unbuilt Journal)) (lines-dump_of (at volume database)) (plain-unbuilt Journal, tt)
+lines-act_over None volume = tt
+
+lines-by_words : (fault : Option Fault) (run : Run) → AreLines run.events → AreLines (by_words fault run).events
+lines-by_words (Some fault) run lines = (plain-bad_words (min fault.at 4294967295) fault.kind (omega arith), tt)
+lines-by_words None run lines = lines
+
 pub lines-run_over : (words : List (List ℕ)) (volume : Volume) → AreLines (run_over words volume).events
-lines-run_over words volume =
-    lines-cond (is_dump words) (dump_over volume) (refused (Unbuilt Words))
-    (lines-cond (is_none (at volume gate)) (dump_of (at volume database)) (refused (Unbuilt Journal)) (lines-dump_of (at volume database)) (plain-line (Unbuilt Journal), tt))
-    (plain-line (Unbuilt Words), tt)
+lines-run_over words volume = lines-by_words (words_fault words) (act_over (action_at words) volume) (lines-act_over (action_at words) volume)
 
 refuses_quiet : (run : Run) (ok : Bool) (first mid last : Seen) → Quiet first mid → Refuses run ok mid last → Refuses run ok first last
 refuses_quiet run ok first mid last quiet near = record {
@@ -47,6 +54,11 @@ refuses_quiet run ok first mid last quiet near = record {
   quiet = quiet_join first mid near.mid quiet near.quiet;
   says = near.says;
 }
+
+-- words that are refused at their first fault
+pub refused-by_words : (found : Option Fault) (at : ℕ) (kind : WordKind) (run : Run) → IsErrorOf found (BadWordsError at kind) → refused (BadWords at kind) ≡ by_words found run
+refused-by_words (Some fault) at kind run is = λ i. refused (BadWords (is.0 i) (is.1 i))
+refused-by_words None at kind run is = absurd is
 
 -- calls that change nothing in front of a run
 pub outcome_quiet : (run : Run) (ending : Ending) (first mid last : Seen) → Quiet first mid → IsOutcome run ending mid last → IsOutcome run ending first last
@@ -64,17 +76,21 @@ module _ (first last : Seen) (tree : Volume) (stood : stand first.present.held �
   quiet_trace : Quiet first last → Trace stand first last tree []
   quiet_trace quiet = trace_quiet stand first first last tree [] (trace_start stand first tree stood) quiet
 
-  refuses_trace : (run : Run) → Refuses run true first last → Trace stand first last tree run.events
-  refuses_trace run near = subst (λ (r : Run). Trace stand first last tree r.events) (sym near.is)
+  -- the line of a refusal is one of the run's texts
+  refuses_plain : (run : Run) (ok : Bool) → AreLines run.events → (near : Refuses run ok first last) → IsPlain (refusal_line near.refusal)
+  refuses_plain run ok lines near = let all : AreLines (refused near.refusal).events = subst (λ (r : Run). AreLines r.events) near.is lines in all.0
+
+  refuses_trace : (run : Run) → AreLines run.events → Refuses run true first last → Trace stand first last tree run.events
+  refuses_trace run lines near = subst (λ (r : Run). Trace stand first last tree r.events) (sym near.is)
       (trace_join stand first near.mid last tree [] (Text (refusal_line near.refusal) ∷ [])
       (trace_quiet stand first first near.mid tree [] (trace_start stand first tree stood) near.quiet)
-      (trace_text stand near.mid last tree (refusal_line near.refusal) (ap (λ m. stand m.held) near.quiet.present ∙ stood) (plain-line near.refusal) near.says))
+      (trace_text stand near.mid last tree (refusal_line near.refusal) (ap (λ m. stand m.held) near.quiet.present ∙ stood) (refuses_plain run true lines near) near.says))
 
-  refuses_cut : (run : Run) → Refuses run false first last → Cut stand first last tree run.events
-  refuses_cut run near = subst (λ (r : Run). Cut stand first last tree r.events) (sym near.is)
+  refuses_cut : (run : Run) → AreLines run.events → Refuses run false first last → Cut stand first last tree run.events
+  refuses_cut run lines near = subst (λ (r : Run). Cut stand first last tree r.events) (sym near.is)
       (cut_join stand first near.mid last tree [] (Text (refusal_line near.refusal) ∷ [])
       (trace_quiet stand first first near.mid tree [] (trace_start stand first tree stood) near.quiet)
-      (cut_text stand false near.mid last tree (refusal_line near.refusal) (ap (λ m. stand m.held) near.quiet.present ∙ stood) (plain-line near.refusal) near.says))
+      (cut_text stand false near.mid last tree (refusal_line near.refusal) (ap (λ m. stand m.held) near.quiet.present ∙ stood) (refuses_plain run false lines near) near.says))
 
   quiet_paused : (run : Run) → AreLines run.events → Quiet first last → Paused stand first last tree run.events
   quiet_paused run lines quiet = paused_longer stand first last tree [] run.events lines (trace_paused stand first last tree [] (quiet_trace quiet))
@@ -82,9 +98,9 @@ module _ (first last : Seen) (tree : Volume) (stood : stand first.present.held �
   -- over the tree that the volume stands for
   pub outcome_run : (run : Run) (ending : Ending) → AreLines run.events → IsOutcome run ending first last → IsRun run ending first last tree
   outcome_run run Done lines near = (ap (λ (r : Run). r.ending) near.0, subst (λ (r : Run). Trace stand first last tree r.events) (sym near.0) (quiet_trace near.1))
-  outcome_run run (Refused refusal) lines near = (near.0, refuses_trace run near.1)
+  outcome_run run (Refused refusal) lines near = (near.0, refuses_trace run lines near.1)
   outcome_run run HostFault lines (inl quiet) = paused_cut stand first last tree run.events (quiet_paused run lines quiet)
-  outcome_run run HostFault lines (inr near) = refuses_cut run near
+  outcome_run run HostFault lines (inr near) = refuses_cut run lines near
   outcome_run run NoMemory lines quiet = quiet_paused run lines quiet
 
 -- each picture of a run is a cut of it

@@ -8,12 +8,14 @@ use Rattle.std.specs.declared.cmp.Ordering.TheVariants.{Equal}
 use Rattle.std.specs.FinMap as map
 use Rattle.std.specs.FinMap.{slice_cmp-IsAntisymmetric, nat_cmp-IsAntisymmetric}
 use Rattle.tl_model.specs.Volume.{Name, Volume, at}
-use Rattle.tl_tool.specs.Run.{Run, database, dump_of, run_of, run_without, is_dump, refused}
-use Rattle.tl_tool.specs.Outcome.{dump_over, run_over}
+use Rattle.tl_tool.specs.Run.{Run, nothing, database, dump_of, run_of, run_without, action_at, act_of, act_without, by_words, refused}
+use Rattle.tl_tool.specs.Outcome.{dump_over, act_over, run_over}
 use Rattle.tl_tool.specs.Stand.{stand, tree_of, is_journal, gate}
-use Rattle.tl_tool.specs.declared.ending.Ending.TheVariants.{Done}
+use Rattle.tl_words.specs.declared.command.Action.{Action}
+use Rattle.tl_words.specs.declared.command.Action.TheVariants.{DumpTlpdb}
+use Rattle.tl_words.specs.Faults.{words_fault}
 use Rattle.tl_tool.specs.declared.refusal.Refusal.TheVariants.{Unbuilt}
-use Rattle.tl_tool.specs.declared.refusal.Missing.TheVariants.{Words, Journal, Form}
+use Rattle.tl_tool.specs.declared.refusal.Missing.TheVariants.{Journal, Form}
 
 -- the database stands in the tree as in the volume
 at-tree_of : (volume : Volume) → at (tree_of volume) database ≡ at volume database
@@ -32,8 +34,12 @@ dump_over-tree volume tree is = by (is_none (at volume gate)) is
     by true same = ap dump_of (sym (at-tree_of volume) ∙ ap (λ (o : Option Volume). at (unwrap_or o tree) database) same)
     by false same = absurd (cc)
 
+act_over-tree : (action : Option Action) (volume tree : Volume) → stand volume ≡ Some tree → act_over action volume ≡ act_of action tree
+act_over-tree (Some (DumpTlpdb local)) volume tree is = dump_over-tree volume tree is
+act_over-tree None volume tree is = refl
+
 pub run_over-tree : (words : List (List ℕ)) (volume tree : Volume) → stand volume ≡ Some tree → run_over words volume ≡ run_of words tree
-run_over-tree words volume tree is = ap (λ (run : Run). cond (is_dump words) run (refused (Unbuilt Words))) (dump_over-tree volume tree is)
+run_over-tree words volume tree is = ap (λ (run : Run). by_words (words_fault words) run) (act_over-tree (action_at words) volume tree is)
 
 -- over a volume that stands for none
 dump_over-none : (volume : Volume) → stand volume ≡ None → dump_over volume ≡ refused (Unbuilt Journal)
@@ -44,11 +50,15 @@ dump_over-none volume is = by (is_none (at volume gate)) is
     by true same = absurd (cc)
     by false same = refl
 
+act_over-none : (action : Option Action) (volume : Volume) → stand volume ≡ None → act_over action volume ≡ act_without action
+act_over-none (Some (DumpTlpdb local)) volume is = dump_over-none volume is
+act_over-none None volume is = refl
+
 pub run_over-none : (words : List (List ℕ)) (volume : Volume) → stand volume ≡ None → run_over words volume ≡ run_without words
-run_over-none words volume is = ap (λ (run : Run). cond (is_dump words) run (refused (Unbuilt Words))) (dump_over-none volume is)
+run_over-none words volume is = ap (λ (run : Run). by_words (words_fault words) run) (act_over-none (action_at words) volume is)
 
 -- a database without bytes has no entry to say
-pub dump_of-empty : (o : Option (List ℕ)) → unwrap_or (option_map length o) 0 ≡ 0 → dump_of o ≡ record { events = []; ending = Done }
+pub dump_of-empty : (o : Option (List ℕ)) → unwrap_or (option_map length o) 0 ≡ 0 → dump_of o ≡ nothing
 dump_of-empty None none = refl
 dump_of-empty (Some []) none = refl
 dump_of-empty (Some (b ∷ bytes)) none = absurd (omega arith)

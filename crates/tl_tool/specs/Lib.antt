@@ -1,3 +1,4 @@
+pub mod Kinds
 pub mod Outcome
 pub mod Refusals
 pub mod Run

@@ -1,5 +1,5 @@
 -- What was seen of a host over a run that says nothing but a refusal.
-use Rattle.std.specs.Prelude.{◌≡◌, ◌⊎◌, ℕ, Bool, true, false, is_none, if◌then◌else◌, List, [], ◌++◌}
+use Rattle.std.specs.Prelude.{◌≡◌, ◌⊎◌, ℕ, Bool, true, false, is_none, if◌then◌else◌, List, [], ◌++◌, Option, Some, None}
 use Rattle.tl_model.specs.Volume.{Volume, at}
 use Rattle.tl_model.specs.Seen.{Seen, Quiet, Says}
 use Rattle.tl_model.specs.Trace.{said_by, IsFront}
@@ -7,9 +7,12 @@ use Rattle.tl_tool.specs.declared.ending.Ending.{Ending}
 use Rattle.tl_tool.specs.declared.ending.Ending.TheVariants.{Done, Refused, HostFault, NoMemory}
 use Rattle.tl_tool.specs.declared.refusal.Refusal.{Refusal}
 use Rattle.tl_tool.specs.declared.refusal.Refusal.TheVariants.{Unbuilt}
-use Rattle.tl_tool.specs.declared.refusal.Missing.TheVariants.{Words, Journal}
+use Rattle.tl_tool.specs.declared.refusal.Missing.TheVariants.{Journal}
 use Rattle.tl_tool.specs.Refusals.{refusal_line}
-use Rattle.tl_tool.specs.Run.{Run, refused, dump_of, database, is_dump}
+use Rattle.tl_tool.specs.Run.{Run, nothing, refused, dump_of, database, action_at, by_words}
+use Rattle.tl_words.specs.declared.command.Action.{Action}
+use Rattle.tl_words.specs.declared.command.Action.TheVariants.{DumpTlpdb}
+use Rattle.tl_words.specs.Faults.{words_fault}
 use Rattle.tl_tool.specs.Stand.{gate}
 
 -- calls that change nothing, and then the line of a refusal, of which a front is said where a call fails
@@ -22,7 +25,7 @@ pub record Refuses (run : Run) (ok : Bool) (first last : Seen) : Type 0 where
 
 -- how a run without steps and texts but a refusal's line went
 abbrev pub IsOutcome : Run → Ending → Seen → Seen → Type 0
-IsOutcome run Done first last = (run ≡ record { events = []; ending = Done }) × Quiet first last
+IsOutcome run Done first last = (run ≡ nothing) × Quiet first last
 IsOutcome run (Refused refusal) first last = (run.ending ≡ Refused refusal) × Refuses run true first last
 IsOutcome run HostFault first last = Quiet first last ⊎ Refuses run false first last
 IsOutcome run NoMemory first last = Quiet first last
@@ -31,9 +34,14 @@ IsOutcome run NoMemory first last = Quiet first last
 abbrev pub dump_over : Volume → Run
 dump_over volume = if is_none (at volume gate) then dump_of (at volume database) else refused (Unbuilt Journal)
 
+-- the run of an action over a volume
+abbrev pub act_over : Option Action → Volume → Run
+act_over (Some (DumpTlpdb local)) volume = dump_over volume
+act_over None volume = nothing
+
 -- the run of a command over a volume
 abbrev pub run_over : List (List ℕ) → Volume → Run
-run_over words volume = if is_dump words then dump_over volume else refused (Unbuilt Words)
+run_over words volume = by_words (words_fault words) (act_over (action_at words) volume)
 
 -- what was said of a run that makes no step: all of it with the run's ending, or a front of it
 abbrev pub IsSaid : Run → Ending → Seen → Seen → Type 0

@@ -1,14 +1,18 @@
 -- The run of a command: what it says, the steps that it makes, and how it ends.
-use Rattle.std.specs.Prelude.{◌≡◌, ℕ, ◌&&◌, ◌||◌, Bool, false, List, [], ◌∷◌, Option, Some, None, nat_eq, codes, if◌then◌else◌}
-use Rattle.std.specs.Cmp.Lexicographic.{pointwise}
+use Rattle.std.specs.Prelude.{◌≡◌, ℕ, min, List, [], ◌∷◌, Option, Some, None, option_map, codes}
 use Rattle.tl_model.specs.Volume.{Name, Volume, at}
 use Rattle.tl_model.specs.Seen.{Seen}
 use Rattle.tl_model.specs.Trace.{Event, Text, Trace, Cut, Paused}
+use Rattle.tl_words.specs.declared.faults.Fault.{Fault}
+use Rattle.tl_words.specs.declared.command.Action.{Action}
+use Rattle.tl_words.specs.declared.command.Action.TheVariants.{DumpTlpdb}
+use Rattle.tl_words.specs.Faults.{words_fault, program_parts, plains}
+use Rattle.tl_words.specs.Commands.{first_action, action_of}
 use Rattle.tl_tool.specs.declared.ending.Ending.{Ending}
 use Rattle.tl_tool.specs.declared.ending.Ending.TheVariants.{Done, Refused, HostFault, NoMemory}
 use Rattle.tl_tool.specs.declared.refusal.Refusal.{Refusal}
-use Rattle.tl_tool.specs.declared.refusal.Refusal.TheVariants.{Unbuilt}
-use Rattle.tl_tool.specs.declared.refusal.Missing.TheVariants.{Words, Journal, Form}
+use Rattle.tl_tool.specs.declared.refusal.Refusal.TheVariants.{BadWords, Unbuilt}
+use Rattle.tl_tool.specs.declared.refusal.Missing.TheVariants.{Journal, Form}
 use Rattle.tl_tool.specs.Refusals.{refusal_line}
 use Rattle.tl_tool.specs.Stand.{stand}
 
@@ -17,18 +21,9 @@ pub record Run : Type 0 where
   pub events : List Event
   pub ending : Ending
 
--- two words of the same bytes
-abbrev pub same_word : List ℕ → List ℕ → Bool
-same_word = pointwise nat_eq
-
--- whether the words are a root, `dump-tlpdb` and `-local` or `--local`
-abbrev pub is_dump : List (List ℕ) → Bool
-is_dump [] = false
-is_dump (root ∷ []) = false
-is_dump (root ∷ action ∷ []) = false
-is_dump (root ∷ action ∷ option ∷ []) =
-    same_word action (codes "dump-tlpdb") && (same_word option (codes "-local") || same_word option (codes "--local"))
-is_dump (root ∷ action ∷ option ∷ word ∷ words) = false
+-- the run that says nothing and is carried out
+abbrev pub nothing : Run
+nothing = record { events = []; ending = Done }
 
 -- the run that says a refusal and nothing else
 abbrev pub refused : Refusal → Run
@@ -40,17 +35,36 @@ database = codes "tlpkg/texlive.tlpdb"
 
 -- the run of `dump-tlpdb` over a database: an absent one and one of 0 bytes have no entry
 abbrev pub dump_of : Option (List ℕ) → Run
-dump_of None = record { events = []; ending = Done }
-dump_of (Some []) = record { events = []; ending = Done }
+dump_of None = nothing
+dump_of (Some []) = nothing
 dump_of (Some (b ∷ bytes)) = refused (Unbuilt Form)
+
+-- the action that words without a fault ask for
+abbrev pub action_at : List (List ℕ) → Option Action
+action_at words = option_map (action_of (program_parts words)) (first_action (plains (program_parts words)))
+
+-- the run of an action over a tree
+abbrev pub act_of : Option Action → Volume → Run
+act_of (Some (DumpTlpdb local)) tree = dump_of (at tree database)
+act_of None tree = nothing
+
+-- the run of an action over a volume that stands for no tree
+abbrev pub act_without : Option Action → Run
+act_without (Some (DumpTlpdb local)) = refused (Unbuilt Journal)
+act_without None = nothing
+
+-- words are refused at their first fault; without one their action's run is made
+abbrev pub by_words : Option Fault → Run → Run
+by_words (Some fault) run = refused (BadWords (min fault.at 4294967295) fault.kind)
+by_words None run = run
 
 -- the run of a command over a tree
 abbrev pub run_of : List (List ℕ) → Volume → Run
-run_of words tree = if is_dump words then dump_of (at tree database) else refused (Unbuilt Words)
+run_of words tree = by_words (words_fault words) (act_of (action_at words) tree)
 
 -- the run of a command over a volume that stands for no tree
 abbrev pub run_without : List (List ℕ) → Run
-run_without words = if is_dump words then refused (Unbuilt Journal) else refused (Unbuilt Words)
+run_without words = by_words (words_fault words) (act_without (action_at words))
 
 -- what was seen of a host from first to last is this run over a tree: whole with its ending, cut off by a fault, or given up
 -- for want of memory

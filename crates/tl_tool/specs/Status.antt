@@ -1,12 +1,19 @@
 -- What an ending is.
 use Rattle.std.specs.Prelude.{ℕ}
+use Rattle.tl_tool.specs.declared.refusal.Refusal.{Refusal}
+use Rattle.tl_tool.specs.declared.refusal.Refusal.TheVariants.{BadWords, Unbuilt}
 use Rattle.tl_tool.specs.declared.ending.Ending.{Ending}
 use Rattle.tl_tool.specs.declared.ending.Ending.TheVariants.{Done, Refused, HostFault, NoMemory}
 
--- 0 for a command that was carried out, 1 for a refusal, 3 for a fault, 4 for want of memory
+-- the status of a refusal: 2 for words that are no command, else 1
+abbrev pub refusal_status : Refusal → ℕ
+refusal_status (BadWords at kind) = 2
+refusal_status (Unbuilt what) = 1
+
+-- 0 for a command that was carried out, 3 for a fault, 4 for want of memory
 abbrev pub status_of : Ending → ℕ
 status_of Done = 0
-status_of (Refused refusal) = 1
+status_of (Refused refusal) = refusal_status refusal
 status_of HostFault = 3
 status_of NoMemory = 4
 

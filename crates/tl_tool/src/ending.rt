@@ -17,14 +17,15 @@ pub enum Ending {
 }
 
 impl Ending {
-    /// The status that the program ends with: 0 where the command was carried out, 1 where it was refused, 3 after a
-    /// fault, 4 for want of memory.
+    /// The status that the program ends with: 0 where the command was carried out, 2 where the words are no command, 1
+    /// where it was refused otherwise, 3 after a fault, 4 for want of memory.
     pub fn status(&self) -> u8
         ensures { result ≡ status_of self.now }
     {
         match self {
             Ending::Done => 0,
-            Ending::Refused(_) => 1,
+            Ending::Refused(Refusal::BadWords { .. }) => 2,
+            Ending::Refused(Refusal::Unbuilt(_)) => 1,
             Ending::HostFault => 3,
             Ending::NoMemory => 4,
         }
@@ -36,14 +37,20 @@ mod tests {
     use super::*;
     use crate::refusal::Missing;
     use std::test::Fail;
+    use tl_words::WordKind;
 
     #[test]
     fn each_ending_has_its_status(rt: HostRuntime) {
+        let bad = Refusal::BadWords {
+            at: 1,
+            kind: WordKind::Action,
+        };
         assert_eq!(rt; Ending::Done.status(), 0);
         assert_eq!(rt;
             Ending::Refused(Refusal::Unbuilt(Missing::Form)).status(),
             1
         );
+        assert_eq!(rt; Ending::Refused(bad).status(), 2);
         assert_eq!(rt; Ending::HostFault.status(), 3);
         assert_eq!(rt; Ending::NoMemory.status(), 4);
     }
@@ -52,6 +59,14 @@ mod tests {
     fn a_refusal_prints_its_name_and_fields(rt: HostRuntime) -> Result<(), Fail> {
         let line = Refusal::Unbuilt(Missing::Journal).to_string(rt.alloc())?;
         assert_eq!(rt; line.as_str(), "tlmgr: Unbuilt what=Journal");
+        let bad = Refusal::BadWords {
+            at: 12,
+            kind: WordKind::Operand,
+        };
+        assert_eq!(rt;
+            bad.to_string(rt.alloc())?.as_str(),
+            "tlmgr: BadWords at=12 kind=Operand"
+        );
         Ok(())
     }
 }

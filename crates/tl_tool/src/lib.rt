@@ -5,7 +5,6 @@ mod database;
 mod ending;
 mod refusal;
 mod top;
-mod words;
 
 pub use ending::Ending;
 pub use refusal::{Missing, Refusal};

@@ -1,10 +1,12 @@
+ghost use Rattle.std.specs.Prelude.{◌≡◌};
+ghost use Rattle.tl_tool.specs.Kinds.{word_kind_name};
+
 use std::fmt;
+use tl_words::WordKind;
 
 /// A part of the program that isn't built yet.
 #[derive(Clone, Copy, Debug, PartialEq, Eq)]
 pub enum Missing {
-    /// The reading of other words than `dump-tlpdb --local`.
-    Words,
     /// The recovery of a volume that has a journal.
     Journal,
     /// The reading of a database that has bytes.
@@ -14,22 +16,45 @@ pub enum Missing {
 /// Why a command was refused. As text it is the line that the program says, without the line end.
 #[derive(Debug, Drop, PartialEq, Eq)]
 pub enum Refusal {
+    /// The words are no command.
+    BadWords {
+        /// The word at which they fail, counted from 0.
+        at: u32,
+        /// How they fail there.
+        kind: WordKind,
+    },
     /// It needs a part of the program that isn't built yet.
     Unbuilt(Missing),
 }
 
-impl fmt::Display for Missing {
-    ghost use Rattle.std.specs.Prelude.{Some};
+impl Missing {
+    ghost use Rattle.std.specs.Prelude.{◌≡◌};
     ghost use Rattle.tl_tool.specs.Refusals.{missing_name};
 
-    ghost output = { λ m. Some (missing_name m) };
-
-    fn fmt<W: fmt::Write>(&self, f: &mut fmt::Formatter<W>) -> fmt::Result {
+    // Its name, as a refusal has it.
+    fn name(self) -> &'static str
+        ensures { result.now ≡ missing_name self }
+    {
         match self {
-            Missing::Words => write!(f, "Words"),
-            Missing::Journal => write!(f, "Journal"),
-            Missing::Form => write!(f, "Form"),
+            Missing::Journal => "Journal",
+            Missing::Form => "Form",
         }
+    }
+}
+
+// The name of a kind, as a refusal has it.
+fn word_kind_name(kind: WordKind) -> &'static str
+    ensures { result.now ≡ word_kind_name kind }
+{
+    match kind {
+        WordKind::Root => "Root",
+        WordKind::Option => "Option",
+        WordKind::Value => "Value",
+        WordKind::Number => "Number",
+        WordKind::Action => "Action",
+        WordKind::Name => "Name",
+        WordKind::Operand => "Operand",
+        WordKind::Repository => "Repository",
     }
 }
 
@@ -41,7 +66,14 @@ impl fmt::Display for Refusal {
 
     fn fmt<W: fmt::Write>(&self, f: &mut fmt::Formatter<W>) -> fmt::Result {
         match self {
-            Refusal::Unbuilt(what) => write!(f, "tlmgr: Unbuilt what={what}"),
+            Refusal::BadWords { at, kind } => {
+                let kind = word_kind_name(*kind);
+                write!(f, "tlmgr: BadWords at={at} kind={kind}")
+            }
+            Refusal::Unbuilt(what) => {
+                let what = what.name();
+                write!(f, "tlmgr: Unbuilt what={what}")
+            }
         }
     }
 }

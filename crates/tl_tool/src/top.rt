@@ -1,20 +1,21 @@
-ghost use Rattle.std.specs.Prelude.{◌≡◌, ◌≤◌, ℕ, List, Some, None, map, IfOk, string_bytes};
+ghost use Rattle.std.specs.Prelude.{◌≡◌, ◌≤◌, ℕ, List, Some, None, IfOk, string_bytes};
 ghost use Rattle.tl_model.specs.Volume.{Volume, at};
 ghost use Rattle.tl_model.specs.Seen.{Told, Could, moment};
 ghost use Rattle.tl_model.specs.Causes.{Rose};
 ghost use Rattle.tl_model.specs.Trace.{IsCut};
 ghost use Rattle.tl_tool.specs.Refusals.{refusal_line};
 ghost use Rattle.tl_tool.specs.Run.{KeepsNames, IsRun, run_of, run_without, dump_of, refused, database};
-ghost use Rattle.tl_tool.specs.Outcome.{IsOutcome, IsSaid, dump_over, run_over};
+ghost use Rattle.tl_tool.specs.Outcome.{IsOutcome, IsSaid, act_over, dump_over, run_over};
 ghost use Rattle.tl_tool.specs.Stand.{stand};
 ghost use Rattle.tl_tool.specs.Status.{IsFault};
+ghost use Rattle.tl_words.specs.Inside.{texts};
 
 use crate::database::{database_size, gate_size};
 use crate::ending::Ending;
 use crate::refusal::{Missing, Refusal};
-use crate::words::is_dump;
 use std::alloc::{AllocError, Global};
 use tl_host::Host;
+use tl_words::{Action, WordsError, read_words};
 
 // The line that says a refusal.
 fn line_of(alloc: Global, refusal: &Refusal) -> Result<String, AllocError>
@@ -70,16 +71,31 @@ fn dump<H: Host>(alloc: Global, host: &mut H) -> Ending
     }
 }
 
-// Reads the words and carries the command out.
-fn perform<H: Host>(alloc: Global, words: &[Vec<u8>], host: &mut H) -> Ending
-    ensures outcome { Told H.tells (IsOutcome (run_over (map (λ w. w.items) words.now) (H.seen host.old).present.held) result
+// Carries an action out.
+fn act<H: Host>(alloc: Global, action: &Action, host: &mut H) -> Ending
+    ensures outcome { Told H.tells (IsOutcome (act_over (Some action.now) (H.seen host.old).present.held) result
         (H.seen host.old) (H.seen host.new)) }
     ensures cause { IsFault result → Rose (H.seen host.old).faults (H.seen host.new).faults }
 {
-    if is_dump(words) {
-        dump(alloc, host)
-    } else {
-        refuse(alloc, Refusal::Unbuilt(Missing::Words), host)
+    match action {
+        Action::DumpTlpdb { local: _ } => dump(alloc, host),
+    }
+}
+
+// Reads the words and carries the command out.
+fn perform<H: Host>(alloc: Global, words: &[Vec<u8>], host: &mut H) -> Ending
+    ensures outcome { Told H.tells (IsOutcome (run_over (texts words.now) (H.seen host.old).present.held) result
+        (H.seen host.old) (H.seen host.new)) }
+    ensures cause { IsFault result → Rose (H.seen host.old).faults (H.seen host.new).faults }
+{
+    match read_words(alloc, words) {
+        Ok(command) => act(alloc, &command.action, host),
+        Err(WordsError::BadWords { at, kind }) => refuse(
+            alloc,
+            Refusal::BadWords { at, kind },
+            host,
+        ),
+        Err(WordsError::NoMemory) => Ending::NoMemory,
     }
 }
 
@@ -92,12 +108,12 @@ fn perform<H: Host>(alloc: Global, words: &[Vec<u8>], host: &mut H) -> Ending
 /// faults rose.
 pub fn texlive<H: Host>(alloc: Global, words: &[Vec<u8>], host: H) -> (Ending, H)
     ensures run { Told H.tells ((tree : Volume) → stand (H.seen host).present.held ≡ Some tree →
-        IsRun (run_of (map (λ w. w.items) words.now) tree) result.0 (H.seen host) (H.seen result.1) tree) }
+        IsRun (run_of (texts words.now) tree) result.0 (H.seen host) (H.seen result.1) tree) }
     ensures pictures { Told H.tells ((tree : Volume) → stand (H.seen host).present.held ≡ Some tree →
         (image : Volume) (said : List ℕ) → Could (H.seen result.1) (moment (H.seen host)) image said →
-        IsCut stand (H.seen host) (run_of (map (λ w. w.items) words.now) tree).events tree image said) }
+        IsCut stand (H.seen host) (run_of (texts words.now) tree).events tree image said) }
     ensures without { Told H.tells (stand (H.seen host).present.held ≡ None →
-        IsSaid (run_without (map (λ w. w.items) words.now)) result.0 (H.seen host) (H.seen result.1)) }
+        IsSaid (run_without (texts words.now)) result.0 (H.seen host) (H.seen result.1)) }
     ensures names { Told H.tells (KeepsNames (H.seen host) (H.seen result.1)) }
     ensures cause { IsFault result.0 → Rose (H.seen host).faults (H.seen result.1).faults }
 {

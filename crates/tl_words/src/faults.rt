@@ -10,11 +10,13 @@ use crate::parts::{PartRef, PartsIter, Placed};
 use crate::table::{ActionName, OptionName};
 use tl_text::decimal_u32;
 
-/// A fault at a word, counted from 0, or at the number of words.
+/// A fault of words.
 #[derive(Clone, Copy, Debug, PartialEq, Eq)]
-pub(crate) struct Fault {
-    pub(crate) at: usize,
-    pub(crate) kind: WordKind,
+pub struct Fault {
+    /// The word it stands at, counted from 0, or the number of words.
+    pub at: usize,
+    /// How the words fail there.
+    pub kind: WordKind,
 }
 
 // The fault at the lesser place; the first one where both have one place.

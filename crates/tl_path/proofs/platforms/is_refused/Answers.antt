@@ -1,4 +1,4 @@
-use Rattle.std.proofs.Common.{sym, ◌∙◌, arith, rules}
+use Rattle.std.proofs.Common.{sym, ◌∙◌, arith}
 use Rattle.tl_path.proofs.Listed.{decided, not_false}
 use Rattle.tl_path.proofs.platforms.is_refused.Goals as goal
 use Rattle.tl_path.proofs.platforms.is_refused.Goals.{then-names-ge-MOST, else-names-ge-MOST}

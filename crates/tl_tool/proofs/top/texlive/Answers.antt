@@ -1,4 +1,5 @@
-use Rattle.std.proofs.Common.{◌≡◌, subst, Some, List, ℕ, map}
+use Rattle.tl_words.specs.Inside.{texts}
+use Rattle.std.proofs.Common.{◌≡◌, subst, Some, List, ℕ}
 use Rattle.tl_model.specs.Volume.{Volume}
 use Rattle.tl_model.specs.Seen.{Seen}
 use Rattle.tl_model.specs.Pictures.{since_could}
@@ -18,18 +19,18 @@ made words ending first last tree stood outcome = subst (λ (r : Run). IsRun r e
 pub returns-clause-run : goal.returns-clause-run
 returns-clause-run g c t tree stood =
     let s = g.H.Host.seen in
-    made (map (λ w. w.items) c.args.words.now) c.perform-ending.result (s c.args.host) (s c.perform-ending.new.host) tree stood (c.perform-ending.ensures.outcome t)
+    made (texts c.args.words.now) c.perform-ending.result (s c.args.host) (s c.perform-ending.new.host) tree stood (c.perform-ending.ensures.outcome t)
 
 pub returns-clause-pictures : goal.returns-clause-pictures
 returns-clause-pictures g c t tree stood =
     let s = g.H.Host.seen in
-    let run = run_of (map (λ w. w.items) c.args.words.now) tree in
+    let run = run_of (texts c.args.words.now) tree in
     since_could (s c.args.host) (s c.perform-ending.new.host) _ (run_pictures run c.perform-ending.result (s c.args.host) (s c.perform-ending.new.host) tree
-    (made (map (λ w. w.items) c.args.words.now) c.perform-ending.result (s c.args.host) (s c.perform-ending.new.host) tree stood (c.perform-ending.ensures.outcome t)))
+    (made (texts c.args.words.now) c.perform-ending.result (s c.args.host) (s c.perform-ending.new.host) tree stood (c.perform-ending.ensures.outcome t)))
 
 pub returns-clause-without : goal.returns-clause-without
 returns-clause-without g c t none =
     let s = g.H.Host.seen in
-    let words = map (λ w. w.items) c.args.words.now in
+    let words = texts c.args.words.now in
     subst (λ (r : Run). IsSaid r c.perform-ending.result (s c.args.host) (s c.perform-ending.new.host)) (run_over-none words (s c.args.host).present.held none)
     (outcome_said (run_over words (s c.args.host).present.held) c.perform-ending.result (s c.args.host) (s c.perform-ending.new.host) (c.perform-ending.ensures.outcome t))

@@ -1,4 +1,4 @@
-use Rattle.std.proofs.Common.{◌≡◌, ◌<◌, ◌++◌, ◌∷◌, [], true, false, sym, ap, ◌∙◌, arith, rules, subst, List, ℕ}
+use Rattle.std.proofs.Common.{◌≡◌, ◌++◌, ◌∷◌, [], sym, ap, ◌∙◌, subst}
 use Rattle.std.specs.List.{slice_split}
 use Rattle.tl_path.specs.Bytes.{is_blank}
 use Rattle.tl_path.specs.Inside.{parts_left}

@@ -1,0 +1,77 @@
+use std::alloc::Global;
+use std::process::Abort;
+use std::test::Fail;
+use tl_host::read_file;
+use tl_memhost::{Bytes, FileBytes, MemHost};
+use tl_path::{Path, PathRef};
+use tl_tool::{Ending, texlive};
+
+const DATABASE: &str = "tlpkg/texlive.tlpdb";
+
+// A host that holds these files.
+fn host(rt: &impl Abort, alloc: Global, files: &[(&str, &[u8])]) -> Result<MemHost, Fail> {
+    let mut made = Vec::new(alloc);
+    for (path, bytes) in files {
+        let path = Path::parse(alloc, path.as_bytes()).ok().expect(rt, "a path");
+        let bytes = Bytes::new(Vec::from_slice(alloc, bytes)?);
+        made.push(FileBytes { path, bytes })?;
+    }
+    Ok(MemHost::new(alloc, made).ok().expect(rt, "a host"))
+}
+
+// These words, as bytes.
+fn words(alloc: Global, words: &[&str]) -> Result<Vec<Vec<u8>>, Fail> {
+    let mut all = Vec::new(alloc);
+    for word in words {
+        all.push(Vec::from_slice(alloc, word.as_bytes())?)?;
+    }
+    Ok(all)
+}
+
+// Runs these words over these files, and compares what is said and the status.
+fn expect(rt: &impl Abort, alloc: Global, files: &[(&str, &[u8])], command: &[&str], said: &str, status: u8) -> Result<(), Fail> {
+    let (ending, host) = texlive(alloc, &words(alloc, command)?, host(rt, alloc, files)?);
+    assert_eq!(rt; host.said(), said.as_bytes());
+    assert_eq!(rt; ending.status(), status);
+    Ok(())
+}
+
+#[test]
+fn commands_over_a_tree(rt: HostRuntime) -> Result<(), Fail> {
+    let alloc = rt.alloc();
+    let dump = ["T", "dump-tlpdb", "--local"].as_slice();
+    expect(&rt, alloc, &[], dump, "", 0)?;
+    expect(&rt, alloc, &[], &["T", "dump-tlpdb", "-local"], "", 0)?;
+    expect(&rt, alloc, &[(DATABASE, b"")], dump, "", 0)?;
+    expect(&rt, alloc, &[(DATABASE, b"name a\n")], dump, "tlmgr: Unbuilt what=Form\n", 1)?;
+    expect(&rt, alloc, &[("tlpkg/journal/gate", b"")], dump, "tlmgr: Unbuilt what=Journal\n", 1)?;
+    expect(&rt, alloc, &[], &["T", "info"], "tlmgr: BadWords at=1 kind=Action\n", 2)?;
+    expect(&rt, alloc, &[], &["T", "dump-tlpdb"], "tlmgr: BadWords at=2 kind=Option\n", 2)?;
+    expect(&rt, alloc, &[], &[], "tlmgr: BadWords at=0 kind=Root\n", 2)
+}
+
+#[test]
+fn a_failing_call_ends_in_a_fault_and_nothing_else(rt: HostRuntime) -> Result<(), Fail> {
+    let alloc = rt.alloc();
+    for call in 0..2u64 {
+        let mut host = host(&rt, alloc, &[])?;
+        host.fail_at(call)?;
+        let (ending, host) = texlive(alloc, &words(alloc, &["T", "dump-tlpdb", "--local"])?, host);
+        assert!(rt; ending == Ending::HostFault);
+        assert_eq!(rt; host.said(), [].as_slice());
+        assert_eq!(rt; host.calls(), call + 1);
+    }
+    Ok(())
+}
+
+#[test]
+fn a_file_of_several_pieces_is_read_whole(rt: HostRuntime) -> Result<(), Fail> {
+    let alloc = rt.alloc();
+    let long = vec![in alloc; 7u8; 70000]?;
+    let mut host = host(&rt, alloc, &[("a", long.as_slice())])?;
+    let read = read_file(alloc, &mut host, PathRef::known("a"), 70000).ok().expect(&rt, "a read");
+    assert_eq!(rt; read.expect(&rt, "a file").as_slice(), long.as_slice());
+    assert!(rt; read_file(alloc, &mut host, PathRef::known("a"), 69999).is_err());
+    assert!(rt; read_file(alloc, &mut host, PathRef::known("b"), 9).ok().expect(&rt, "a read").is_none());
+    Ok(())
+}
