@@ -1,6 +1,6 @@
 -- What is written of an entry is whole lines, and none of them is an acknowledgement.
-use Rattle.std.proofs.Common.{◌≡◌, ℕ, zero, suc, ◌==◌, ◌/◌, ◌%◌, ◌^◌, ◌<◌, ◌≤◌, ltb, Bool, true, false, cond, not, ◌&&◌, List, [], ◌∷◌, ◌++◌, length, get_or, Option, Some, None, inl, inr, refl, sym, ◌∙◌, ap, subst, arith, append_assoc}
-use Rattle.std.specs.Prelude.{codes, slice_index, nat_le}
+use Rattle.std.proofs.Common.{◌≡◌, ℕ, zero, suc, ◌==◌, ◌/◌, ◌%◌, ◌^◌, ◌<◌, ◌≤◌, ltb, Bool, true, false, cond, not, ◌&&◌, List, [], ◌∷◌, ◌++◌, length, get_or, Option, Some, None, Result, Ok, Err, inl, inr, refl, sym, ◌∙◌, ap, subst, arith, append_assoc}
+use Rattle.std.specs.Prelude.{OnOk, codes, slice_index, nat_le}
 use Rattle.std.specs.Char.{is_ascii_digit}
 use Rattle.std.specs.Option.{option_map}
 use Rattle.std.specs.List.{list_all, position, position_or_len}
@@ -23,7 +23,7 @@ use Rattle.tl_path.specs.declared.kinds.Category.TheVariants.{Package, TLCore, C
 use Rattle.tl_object.specs.Forms.{is_platform_byte, is_platform}
 use Rattle.tl_object.specs.Parts.{FileEntry, FactEntry}
 use Rattle.tl_object.specs.Plain.{is_key}
-use Rattle.tl_object.specs.Writing.{key_line, path_line, mark_text, file_line, section_line, bin_line, fact_line, relocated_line, category_word}
+use Rattle.tl_object.specs.Writing.{key_line, path_line, mark_text, file_line, section_line, fact_line, category_word}
 
 abbrev no_end : ℕ → Bool
 no_end b = not (b == 10)
@@ -95,7 +95,7 @@ unfolding encode_with
 line_of_digest [] = All-nil (λ b. (b == 10) ≡ false)
 line_of_digest (b ∷ digest) =
     All-cons (λ b. (b == 10) ≡ false) (slice_index lower_digits (b / 16)) (slice_index lower_digits (b % 16) ∷ encode_lower digest) (digit_apart lower_digits (b / 16) refl)
-      (All-cons (λ b. (b == 10) ≡ false) (slice_index lower_digits (b % 16)) (encode_lower digest) (digit_apart lower_digits (b % 16) refl) (line_of_digest digest))
+    (All-cons (λ b. (b == 10) ≡ false) (slice_index lower_digits (b % 16)) (encode_lower digest) (digit_apart lower_digits (b % 16) refl) (line_of_digest digest))
 
 no_fault : (a b : Option PathFault) → or_else a b ≡ None → b ≡ None
 no_fault None b is = is
@@ -167,13 +167,13 @@ plain_section_line key blocks begins is =
     let sized = begun_more key (codes " size=") (begun_key key begins) (line_tested (codes " size=") refl) in
     plain_begun (key ++ codes " size=" ++ decimal_text blocks) (begun_more (key ++ codes " size=") (decimal_text blocks) sized is)
 
-pub plain_bin_line : (platform : List ℕ) (blocks : ℕ) → is_platform platform ≡ true → IsLine (decimal_text blocks) → IsPlain (bin_line platform blocks)
-unfolding bin_line section_line
-plain_bin_line platform blocks is digits =
+pub plain_bin_line : (platform : List ℕ) (blocks : ℕ) → is_platform platform ≡ true → blocks < 2 ^ 64 → IsPlain (codes "binfiles arch=" ++ section_line platform blocks)
+unfolding section_line
+plain_bin_line platform blocks is small =
     let named = line_append platform (codes " size=") (line_of_platform platform is) (line_tested (codes " size=") refl) in
-    let more = line_append (platform ++ codes " size=") (decimal_text blocks) named digits in
+    let more = line_append (platform ++ codes " size=") (decimal_text blocks) named (line_of_number blocks small) in
     plain_begun (codes "binfiles arch=" ++ (platform ++ codes " size=" ++ decimal_text blocks))
-      (begun_more (codes "binfiles arch=") (platform ++ codes " size=" ++ decimal_text blocks) (begun_key (codes "binfiles arch=") refl) more)
+    (begun_more (codes "binfiles arch=") (platform ++ codes " size=" ++ decimal_text blocks) (begun_key (codes "binfiles arch=") refl) more)
 
 pub plain_fact_line : (fact : FactEntry) → IsText fact.key → IsText fact.value → IsPlain (fact_line fact)
 unfolding fact_line
@@ -191,13 +191,25 @@ plain_file_line file path details language =
     let begun = begun_more (32 ∷ []) file.path begun_space (line_of_path file.path path) in
     let more = begun_more (32 ∷ file.path) (mark_text (codes "details=\"") file.details) begun details in
     plain_begun ((32 ∷ file.path) ++ mark_text (codes "details=\"") file.details ++ mark_text (codes "language=\"") file.language)
-      (begun_more ((32 ∷ file.path) ++ mark_text (codes "details=\"") file.details) (mark_text (codes "language=\"") file.language) more language)
+    (begun_more ((32 ∷ file.path) ++ mark_text (codes "details=\"") file.details) (mark_text (codes "language=\"") file.language) more language)
 
-pub plain_relocated_line : (relocated : Bool) → IsPlain (relocated_line relocated)
-unfolding relocated_line
-plain_relocated_line true = plain-literal _ refl refl
-plain_relocated_line false = plain-nil
+pub plain_relocated_line : IsPlain (codes "relocated 1\n")
+plain_relocated_line = plain-literal (codes "relocated 1\n") refl refl
 
 -- what was plain before stays so with plain lines behind it
 pub plain_written : (old new lines : List ℕ) → new ≡ old ++ lines → IsPlain lines → IsPlain old → IsPlain new
 plain_written old new lines is near far = subst IsPlain (sym is) (plain-append old lines far near)
+
+pub on_ok : {T E P : Type 0} (r : Result T E) → P → OnOk r P
+on_ok (Ok x) p = p
+on_ok (Err e) p = tt
+
+-- a call that wrote plain lines where it succeeded
+pub plain_behind : {T E : Type 0} (r : Result T E) (old new lines : List ℕ) → OnOk r (new ≡ old ++ lines) → IsPlain lines → OnOk r (IsPlain old → IsPlain new)
+plain_behind (Ok x) old new lines is near = λ far. plain_written old new lines is near far
+plain_behind (Err e) old new lines is near = tt
+
+-- a last call after plain lines
+pub plain_last : {T E : Type 0} (r : Result T E) (old between new : List ℕ) → (IsPlain old → IsPlain between) → OnOk r (IsPlain between → IsPlain new) → OnOk r (IsPlain old → IsPlain new)
+plain_last (Ok x) old between new first last = λ far. last (first far)
+plain_last (Err e) old between new first last = tt

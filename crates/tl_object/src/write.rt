@@ -37,8 +37,7 @@ fn put_line(out: &mut Vec<u8>, key: &[u8], value: &[u8]) -> Result<(), AllocErro
 }
 
 fn put_decimal(out: &mut Vec<u8>, n: u64) -> Result<(), AllocError>
-    ensures written { OnOk result (out.new.items ≡ out.old.items ++ decimal_text n) }
-    ensures digits { OnOk result (IsLine (decimal_text n)) }
+    ensures { OnOk result (out.new.items ≡ out.old.items ++ decimal_text n) }
 {
     let mut buffer = Buffer::new();
     out.extend_from_slice(buffer.format(n).as_bytes())
@@ -121,7 +120,12 @@ fn put_digest(out: &mut Vec<u8>, key: &[u8], digest: &Option<[u8; 64]>) -> Resul
     }
 }
 
-fn put_container(out: &mut Vec<u8>, size_key: &[u8], digest_key: &[u8], container: &Container) -> Result<(), AllocError>
+fn put_container(
+    out: &mut Vec<u8>,
+    size_key: &[u8],
+    digest_key: &[u8],
+    container: &Container,
+) -> Result<(), AllocError>
     requires size { is_key size_key.now ≡ true }
     requires digest { is_key digest_key.now ≡ true }
     ensures written { OnOk result (out.new.items ≡ out.old.items ++ container_lines size_key.now digest_key.now container.now) }
@@ -226,9 +230,13 @@ fn put_doc(out: &mut Vec<u8>, doc: &DocFiles) -> Result<(), AllocError>
     put_doc_files(out, files)
 }
 
-fn put_section_behind(out: &mut Vec<u8>, word: &[u8], key: &[u8], blocks: u64) -> Result<(), AllocError>
-    ensures written { OnOk result (out.new.items ≡ out.old.items ++ (word.now ++ section_line key.now blocks)) }
-    ensures digits { OnOk result (IsLine (decimal_text blocks)) }
+fn put_section_behind(
+    out: &mut Vec<u8>,
+    word: &[u8],
+    key: &[u8],
+    blocks: u64,
+) -> Result<(), AllocError>
+    ensures { OnOk result (out.new.items ≡ out.old.items ++ (word.now ++ section_line key.now blocks)) }
 {
     out.extend_from_slice(word)?;
     put_section(out, key, blocks)
@@ -321,9 +329,19 @@ fn put_all_files(out: &mut Vec<u8>, object: &Object) -> Result<(), AllocError>
     ensures plain { OnOk result (IsPlain out.old.items → IsPlain out.new.items) }
 {
     put_container(out, b"containersize", b"containerchecksum", &object.run_box)?;
-    put_container(out, b"doccontainersize", b"doccontainerchecksum", &object.doc_box)?;
+    put_container(
+        out,
+        b"doccontainersize",
+        b"doccontainerchecksum",
+        &object.doc_box,
+    )?;
     put_doc(out, &object.doc)?;
-    put_container(out, b"srccontainersize", b"srccontainerchecksum", &object.src_box)?;
+    put_container(
+        out,
+        b"srccontainersize",
+        b"srccontainerchecksum",
+        &object.src_box,
+    )?;
     put_files(out, b"srcfiles", &object.src)?;
     put_files(out, b"runfiles", &object.run)?;
     put_bins(out, object.bin.as_slice())
