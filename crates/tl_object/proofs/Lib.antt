@@ -4,3 +4,4 @@ pub mod RisingLemmas
 pub mod BuiltLemmas
 pub mod ReadingLemmas
 pub mod StretchLemmas
+pub mod PlainLemmas

@@ -12,3 +12,4 @@ pub mod Built
 pub mod Known
 pub mod Writing
 pub mod Steps
+pub mod Plain

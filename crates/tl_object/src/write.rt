@@ -1,8 +1,12 @@
 //! The writing of an entry.
-ghost use Rattle.std.specs.Prelude.{◌≡◌, ◌++◌, ◌∷◌, [], OnOk, IfOk, codes};
-ghost use Rattle.std.specs.List.{flat_map};
+ghost use Rattle.std.specs.Prelude.{◌≡◌, ◌==◌, ◌++◌, ◌∷◌, [], not, true, OnOk, IfOk, codes};
+ghost use Rattle.std.specs.List.{flat_map, list_all};
 ghost use Rattle.tl_model.specs.Decimal.{decimal_text};
+ghost use Rattle.tl_model.specs.Lines.{IsLine};
+ghost use Rattle.tl_model.specs.Acks.{IsPlain};
 ghost use Rattle.hex.specs.Hex.{encode_lower};
+ghost use Rattle.tl_object.specs.Forms.{is_platform};
+ghost use Rattle.tl_object.specs.Plain.{is_key};
 ghost use Rattle.tl_object.specs.Writing.{key_line, number_line, text_line, text_lines, category_word, size_line, digest_line, container_lines, path_line, mark_text, file_line, section_line, files_lines, doc_lines, bin_line, bin_lines, relocated_line, fact_line, first_lines, middle_lines, file_lines, object_text};
 
 use crate::object::{BinFiles, Container, DocFile, DocFiles, Fact, Files, Object};
@@ -13,7 +17,7 @@ use tl_path::{Category, Path};
 use tl_text::Text;
 
 #[tactic(auto, unfolding(crate::specs::Writing::key_line))]
-fn put_line(out: &mut Vec<u8>, key: &[u8], value: &[u8]) -> Result<(), AllocError>
+fn put_words(out: &mut Vec<u8>, key: &[u8], value: &[u8]) -> Result<(), AllocError>
     ensures { OnOk result (out.new.items ≡ out.old.items ++ key_line key.now value.now) }
 {
     out.extend_from_slice(key)?;
@@ -21,6 +25,15 @@ fn put_line(out: &mut Vec<u8>, key: &[u8], value: &[u8]) -> Result<(), AllocErro
     out.extend_from_slice(value)?;
     out.push(b'\n')?;
     Ok(())
+}
+
+fn put_line(out: &mut Vec<u8>, key: &[u8], value: &[u8]) -> Result<(), AllocError>
+    requires begins { is_key key.now ≡ true }
+    requires line { IsLine value.now }
+    ensures written { OnOk result (out.new.items ≡ out.old.items ++ key_line key.now value.now) }
+    ensures plain { OnOk result (IsPlain out.old.items → IsPlain out.new.items) }
+{
+    put_words(out, key, value)
 }
 
 fn put_decimal(out: &mut Vec<u8>, n: u64) -> Result<(), AllocError>
@@ -31,14 +44,18 @@ fn put_decimal(out: &mut Vec<u8>, n: u64) -> Result<(), AllocError>
 }
 
 fn put_number(out: &mut Vec<u8>, key: &[u8], n: u64) -> Result<(), AllocError>
-    ensures { OnOk result (out.new.items ≡ out.old.items ++ number_line key.now n) }
+    requires { is_key key.now ≡ true }
+    ensures written { OnOk result (out.new.items ≡ out.old.items ++ number_line key.now n) }
+    ensures plain { OnOk result (IsPlain out.old.items → IsPlain out.new.items) }
 {
     let mut buffer = Buffer::new();
     put_line(out, key, buffer.format(n).as_bytes())
 }
 
 fn put_text(out: &mut Vec<u8>, key: &[u8], text: &Option<Text>) -> Result<(), AllocError>
-    ensures { OnOk result (out.new.items ≡ out.old.items ++ text_line key.now text.now) }
+    requires { is_key key.now ≡ true }
+    ensures written { OnOk result (out.new.items ≡ out.old.items ++ text_line key.now text.now) }
+    ensures plain { OnOk result (IsPlain out.old.items → IsPlain out.new.items) }
 {
     match text {
         Some(text) => put_line(out, key, text.bytes()),
@@ -47,7 +64,9 @@ fn put_text(out: &mut Vec<u8>, key: &[u8], text: &Option<Text>) -> Result<(), Al
 }
 
 fn put_texts(out: &mut Vec<u8>, key: &[u8], texts: &[Text]) -> Result<(), AllocError>
-    ensures { OnOk result (out.new.items ≡ out.old.items ++ text_lines key.now texts.now) }
+    requires { is_key key.now ≡ true }
+    ensures written { OnOk result (out.new.items ≡ out.old.items ++ text_lines key.now texts.now) }
+    ensures plain { OnOk result (IsPlain out.old.items → IsPlain out.new.items) }
 {
     for text in texts {
         put_line(out, key, text.bytes())?;
@@ -68,7 +87,9 @@ fn category_word(category: Category) -> &'static [u8]
 }
 
 fn put_size(out: &mut Vec<u8>, key: &[u8], size: Option<u64>) -> Result<(), AllocError>
-    ensures { OnOk result (out.new.items ≡ out.old.items ++ size_line key.now size) }
+    requires { is_key key.now ≡ true }
+    ensures written { OnOk result (out.new.items ≡ out.old.items ++ size_line key.now size) }
+    ensures plain { OnOk result (IsPlain out.old.items → IsPlain out.new.items) }
 {
     match size {
         Some(size) => put_number(out, key, size),
@@ -77,7 +98,9 @@ fn put_size(out: &mut Vec<u8>, key: &[u8], size: Option<u64>) -> Result<(), Allo
 }
 
 fn put_digits(out: &mut Vec<u8>, key: &[u8], digest: [u8; 64]) -> Result<(), AllocError>
-    ensures { OnOk result (out.new.items ≡ out.old.items ++ key_line key.now (encode_lower digest)) }
+    requires { is_key key.now ≡ true }
+    ensures written { OnOk result (out.new.items ≡ out.old.items ++ key_line key.now (encode_lower digest)) }
+    ensures plain { OnOk result (IsPlain out.old.items → IsPlain out.new.items) }
 {
     let mut digits = [0u8; 128];
     match encode_to_slice(digest.as_slice(), &mut digits) {
@@ -87,7 +110,9 @@ fn put_digits(out: &mut Vec<u8>, key: &[u8], digest: [u8; 64]) -> Result<(), All
 }
 
 fn put_digest(out: &mut Vec<u8>, key: &[u8], digest: &Option<[u8; 64]>) -> Result<(), AllocError>
-    ensures { OnOk result (out.new.items ≡ out.old.items ++ digest_line key.now digest.now) }
+    requires { is_key key.now ≡ true }
+    ensures written { OnOk result (out.new.items ≡ out.old.items ++ digest_line key.now digest.now) }
+    ensures plain { OnOk result (IsPlain out.old.items → IsPlain out.new.items) }
 {
     match digest {
         Some(digest) => put_digits(out, key, *digest),
@@ -101,26 +126,40 @@ fn put_container(
     digest_key: &[u8],
     container: &Container,
 ) -> Result<(), AllocError>
-    ensures { OnOk result (out.new.items ≡ out.old.items ++ container_lines size_key.now digest_key.now container.now) }
+    requires size { is_key size_key.now ≡ true }
+    requires digest { is_key digest_key.now ≡ true }
+    ensures written { OnOk result (out.new.items ≡ out.old.items ++ container_lines size_key.now digest_key.now container.now) }
+    ensures plain { OnOk result (IsPlain out.old.items → IsPlain out.new.items) }
 {
     put_size(out, size_key, container.size)?;
     put_digest(out, digest_key, &container.digest)
 }
 
 #[tactic(auto, unfolding(crate::specs::Writing::path_line))]
+fn put_path(out: &mut Vec<u8>, path: &Path) -> Result<(), AllocError>
+    ensures written { OnOk result (out.new.items ≡ out.old.items ++ path_line path.now) }
+    ensures plain { OnOk result (IsPlain (path_line path.now)) }
+{
+    out.push(b' ')?;
+    out.extend_from_slice(path.bytes())?;
+    out.push(b'\n')?;
+    Ok(())
+}
+
 fn put_paths(out: &mut Vec<u8>, paths: &[Path]) -> Result<(), AllocError>
-    ensures { OnOk result (out.new.items ≡ out.old.items ++ flat_map path_line paths.now) }
+    ensures written { OnOk result (out.new.items ≡ out.old.items ++ flat_map path_line paths.now) }
+    ensures plain { OnOk result (IsPlain out.old.items → IsPlain out.new.items) }
 {
     for path in paths {
-        out.push(b' ')?;
-        out.extend_from_slice(path.bytes())?;
-        out.push(b'\n')?;
+        put_path(out, path)?;
     }
     Ok(())
 }
 
 fn put_mark(out: &mut Vec<u8>, word: &[u8], mark: &Option<Text>) -> Result<(), AllocError>
-    ensures { OnOk result (out.new.items ≡ out.old.items ++ mark_text word.now mark.now) }
+    requires { list_all (λ b. not (b == 10)) word.now ≡ true }
+    ensures written { OnOk result (out.new.items ≡ out.old.items ++ mark_text word.now mark.now) }
+    ensures line { OnOk result (IsLine (mark_text word.now mark.now)) }
 {
     if let Some(text) = mark {
         out.push(b' ')?;
@@ -133,7 +172,8 @@ fn put_mark(out: &mut Vec<u8>, word: &[u8], mark: &Option<Text>) -> Result<(), A
 
 #[tactic(auto, unfolding(crate::specs::Writing::file_line))]
 fn put_file(out: &mut Vec<u8>, file: &DocFile) -> Result<(), AllocError>
-    ensures { OnOk result (out.new.items ≡ out.old.items ++ file_line file.now) }
+    ensures written { OnOk result (out.new.items ≡ out.old.items ++ file_line file.now) }
+    ensures plain { OnOk result (IsPlain (file_line file.now)) }
 {
     out.push(b' ')?;
     out.extend_from_slice(file.path.bytes())?;
@@ -144,7 +184,8 @@ fn put_file(out: &mut Vec<u8>, file: &DocFile) -> Result<(), AllocError>
 }
 
 fn put_doc_files(out: &mut Vec<u8>, files: &[DocFile]) -> Result<(), AllocError>
-    ensures { OnOk result (out.new.items ≡ out.old.items ++ flat_map file_line files.now) }
+    ensures written { OnOk result (out.new.items ≡ out.old.items ++ flat_map file_line files.now) }
+    ensures plain { OnOk result (IsPlain out.old.items → IsPlain out.new.items) }
 {
     for file in files {
         put_file(out, file)?;
@@ -154,7 +195,8 @@ fn put_doc_files(out: &mut Vec<u8>, files: &[DocFile]) -> Result<(), AllocError>
 
 #[tactic(auto, unfolding(crate::specs::Writing::section_line))]
 fn put_section(out: &mut Vec<u8>, key: &[u8], blocks: u64) -> Result<(), AllocError>
-    ensures { OnOk result (out.new.items ≡ out.old.items ++ section_line key.now blocks) }
+    ensures written { OnOk result (out.new.items ≡ out.old.items ++ section_line key.now blocks) }
+    ensures digits { OnOk result (IsLine (decimal_text blocks)) }
 {
     out.extend_from_slice(key)?;
     out.extend_from_slice(b" size=")?;
@@ -164,7 +206,9 @@ fn put_section(out: &mut Vec<u8>, key: &[u8], blocks: u64) -> Result<(), AllocEr
 }
 
 fn put_files(out: &mut Vec<u8>, key: &[u8], files: &Files) -> Result<(), AllocError>
-    ensures { OnOk result (out.new.items ≡ out.old.items ++ files_lines key.now files.now) }
+    requires { is_key key.now ≡ true }
+    ensures written { OnOk result (out.new.items ≡ out.old.items ++ files_lines key.now files.now) }
+    ensures plain { OnOk result (IsPlain out.old.items → IsPlain out.new.items) }
 {
     let paths = files.paths.as_slice();
     if files.blocks == 0 && paths.is_empty() {
@@ -175,7 +219,8 @@ fn put_files(out: &mut Vec<u8>, key: &[u8], files: &Files) -> Result<(), AllocEr
 }
 
 fn put_doc(out: &mut Vec<u8>, doc: &DocFiles) -> Result<(), AllocError>
-    ensures { OnOk result (out.new.items ≡ out.old.items ++ doc_lines doc.now) }
+    ensures written { OnOk result (out.new.items ≡ out.old.items ++ doc_lines doc.now) }
+    ensures plain { OnOk result (IsPlain out.old.items → IsPlain out.new.items) }
 {
     let files = doc.files.as_slice();
     if doc.blocks == 0 && files.is_empty() {
@@ -199,20 +244,24 @@ fn put_section_behind(
 
 #[tactic(auto, unfolding(crate::specs::Writing::bin_line))]
 fn put_bin_line(out: &mut Vec<u8>, platform: &[u8], blocks: u64) -> Result<(), AllocError>
-    ensures { OnOk result (out.new.items ≡ out.old.items ++ bin_line platform.now blocks) }
+    requires { is_platform platform.now ≡ true }
+    ensures written { OnOk result (out.new.items ≡ out.old.items ++ bin_line platform.now blocks) }
+    ensures plain { OnOk result (IsPlain out.old.items → IsPlain out.new.items) }
 {
     put_section_behind(out, b"binfiles arch=", platform, blocks)
 }
 
 fn put_bin(out: &mut Vec<u8>, bin: &BinFiles) -> Result<(), AllocError>
-    ensures { OnOk result (out.new.items ≡ out.old.items ++ bin_lines bin.now) }
+    ensures written { OnOk result (out.new.items ≡ out.old.items ++ bin_lines bin.now) }
+    ensures plain { OnOk result (IsPlain out.old.items → IsPlain out.new.items) }
 {
     put_bin_line(out, bin.platform.bytes(), bin.blocks)?;
     put_paths(out, bin.paths.as_slice())
 }
 
 fn put_bins(out: &mut Vec<u8>, bins: &[BinFiles]) -> Result<(), AllocError>
-    ensures { OnOk result (out.new.items ≡ out.old.items ++ flat_map bin_lines bins.now) }
+    ensures written { OnOk result (out.new.items ≡ out.old.items ++ flat_map bin_lines bins.now) }
+    ensures plain { OnOk result (IsPlain out.old.items → IsPlain out.new.items) }
 {
     for bin in bins {
         put_bin(out, bin)?;
@@ -222,14 +271,16 @@ fn put_bins(out: &mut Vec<u8>, bins: &[BinFiles]) -> Result<(), AllocError>
 
 #[tactic(auto, unfolding(crate::specs::Writing::fact_line, crate::specs::Writing::key_line))]
 fn put_fact(out: &mut Vec<u8>, fact: &Fact) -> Result<(), AllocError>
-    ensures { OnOk result (out.new.items ≡ out.old.items ++ fact_line fact.now) }
+    ensures written { OnOk result (out.new.items ≡ out.old.items ++ fact_line fact.now) }
+    ensures plain { OnOk result (IsPlain (fact_line fact.now)) }
 {
     out.extend_from_slice(b"catalogue-")?;
-    put_line(out, fact.key.bytes(), fact.value.bytes())
+    put_words(out, fact.key.bytes(), fact.value.bytes())
 }
 
 fn put_facts(out: &mut Vec<u8>, facts: &[Fact]) -> Result<(), AllocError>
-    ensures { OnOk result (out.new.items ≡ out.old.items ++ flat_map fact_line facts.now) }
+    ensures written { OnOk result (out.new.items ≡ out.old.items ++ flat_map fact_line facts.now) }
+    ensures plain { OnOk result (IsPlain out.old.items → IsPlain out.new.items) }
 {
     for fact in facts {
         put_fact(out, fact)?;
@@ -239,7 +290,8 @@ fn put_facts(out: &mut Vec<u8>, facts: &[Fact]) -> Result<(), AllocError>
 
 #[tactic(auto, unfolding(crate::specs::Writing::relocated_line))]
 fn put_relocated(out: &mut Vec<u8>, relocated: bool) -> Result<(), AllocError>
-    ensures { OnOk result (out.new.items ≡ out.old.items ++ relocated_line relocated) }
+    ensures written { OnOk result (out.new.items ≡ out.old.items ++ relocated_line relocated) }
+    ensures plain { OnOk result (IsPlain out.old.items → IsPlain out.new.items) }
 {
     if relocated {
         out.extend_from_slice(b"relocated 1\n")?;
@@ -249,7 +301,8 @@ fn put_relocated(out: &mut Vec<u8>, relocated: bool) -> Result<(), AllocError>
 
 #[tactic(auto, unfolding(crate::specs::Writing::first_lines))]
 fn put_first(out: &mut Vec<u8>, object: &Object) -> Result<(), AllocError>
-    ensures { OnOk result (out.new.items ≡ out.old.items ++ first_lines object.now) }
+    ensures written { OnOk result (out.new.items ≡ out.old.items ++ first_lines object.now) }
+    ensures plain { OnOk result (IsPlain out.old.items → IsPlain out.new.items) }
 {
     put_line(out, b"name", object.name.bytes())?;
     put_line(out, b"category", category_word(object.category))?;
@@ -261,7 +314,8 @@ fn put_first(out: &mut Vec<u8>, object: &Object) -> Result<(), AllocError>
 
 #[tactic(auto, unfolding(crate::specs::Writing::middle_lines))]
 fn put_middle(out: &mut Vec<u8>, object: &Object) -> Result<(), AllocError>
-    ensures { OnOk result (out.new.items ≡ out.old.items ++ middle_lines object.now) }
+    ensures written { OnOk result (out.new.items ≡ out.old.items ++ middle_lines object.now) }
+    ensures plain { OnOk result (IsPlain out.old.items → IsPlain out.new.items) }
 {
     put_texts(out, b"longdesc", object.longdesc.as_slice())?;
     put_texts(out, b"depend", object.depends.as_slice())?;
@@ -271,7 +325,8 @@ fn put_middle(out: &mut Vec<u8>, object: &Object) -> Result<(), AllocError>
 
 #[tactic(auto, unfolding(crate::specs::Writing::file_lines))]
 fn put_all_files(out: &mut Vec<u8>, object: &Object) -> Result<(), AllocError>
-    ensures { OnOk result (out.new.items ≡ out.old.items ++ file_lines object.now) }
+    ensures written { OnOk result (out.new.items ≡ out.old.items ++ file_lines object.now) }
+    ensures plain { OnOk result (IsPlain out.old.items → IsPlain out.new.items) }
 {
     put_container(out, b"containersize", b"containerchecksum", &object.run_box)?;
     put_container(
@@ -294,7 +349,8 @@ fn put_all_files(out: &mut Vec<u8>, object: &Object) -> Result<(), AllocError>
 
 /// Writes the text of an entry behind what was written before.
 pub fn append_object(out: &mut Vec<u8>, object: &Object) -> Result<(), AllocError>
-    ensures { OnOk result (out.new.items ≡ out.old.items ++ object_text object.now) }
+    ensures written { OnOk result (out.new.items ≡ out.old.items ++ object_text object.now) }
+    ensures plain { OnOk result (IsPlain out.old.items → IsPlain out.new.items) }
 {
     put_first(out, object)?;
     put_middle(out, object)?;
@@ -304,7 +360,8 @@ pub fn append_object(out: &mut Vec<u8>, object: &Object) -> Result<(), AllocErro
 
 /// The text of an entry, each line with its end.
 pub fn write_object(alloc: Global, object: &Object) -> Result<Vec<u8>, AllocError>
-    ensures { IfOk result (λ text. text.items ≡ object_text object.now) }
+    ensures text { IfOk result (λ text. text.items ≡ object_text object.now) }
+    ensures plain { IfOk result (λ text. IsPlain text.items) }
 {
     let mut out = Vec::new(alloc);
     append_object(&mut out, object)?;

@@ -1,7 +1,11 @@
 use Rattle.std.proofs.Common.{◌≡◌, ◌++◌, take}
 use Rattle.std.specs.List.{flat_map}
+use Rattle.tl_model.specs.Acks.{IsPlain}
 use Rattle.tl_object.specs.Writing.{path_line}
 use Rattle.tl_object.proofs.write.put_paths.Given as goal
 
 abbrev pub invariant-loop-path : goal.invariant-loop-path
-invariant-loop-path l = l.out.items ≡ l.fn.out.items ++ flat_map path_line (take l.path-index l.paths)
+invariant-loop-path l = record {
+  written : l.out.items ≡ l.fn.out.items ++ flat_map path_line (take l.path-index l.paths);
+  plain : IsPlain l.fn.out.items → IsPlain l.out.items;
+}
