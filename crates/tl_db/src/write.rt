@@ -1,5 +1,6 @@
 //! The writing of a database.
 ghost use Rattle.std.specs.Prelude.{◌≡◌, ◌++◌, ◌∷◌, [], OnOk, IfOk};
+ghost use Rattle.tl_model.specs.Acks.{IsPlain};
 ghost use Rattle.tl_db.specs.Text.{entry_text, db_text};
 
 use crate::db::Db;
@@ -7,16 +8,19 @@ use std::alloc::{AllocError, Global};
 use tl_object::{Object, append_object};
 
 fn append_entry(out: &mut Vec<u8>, object: &Object) -> Result<(), AllocError>
-    ensures { OnOk result (out.new.items ≡ out.old.items ++ entry_text object.now) }
+    ensures written { OnOk result (out.new.items ≡ out.old.items ++ entry_text object.now) }
+    ensures plain { OnOk result (IsPlain out.old.items → IsPlain out.new.items) }
 {
     append_object(out, object)?;
     out.push(b'\n')?;
     Ok(())
 }
 
-/// The text of a database: its entries in rising order of their names, each followed by one empty line.
+/// The text of a database: its entries in rising order of their names, each followed by one empty line. It is whole lines,
+/// of which none has the form of a line that acknowledges a step.
 pub fn write_db(alloc: Global, db: &Db) -> Result<Vec<u8>, AllocError>
-    ensures { IfOk result (λ text. text.items ≡ db_text db.now) }
+    ensures text { IfOk result (λ text. text.items ≡ db_text db.now) }
+    ensures plain { IfOk result (λ text. IsPlain text.items) }
 {
     let mut out = Vec::new(alloc);
     for object in db.objects() {
