@@ -1,3 +1,4 @@
+pub mod Dumps
 pub mod Outcomes
 pub mod Plain
 pub mod Trees

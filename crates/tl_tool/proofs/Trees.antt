@@ -1,5 +1,5 @@
 -- The run over a volume is the run over the tree that it stands for.
-use Rattle.std.proofs.Common.{◌≡◌, ℕ, arith, length, Bool, true, false, cond, List, [], ◌∷◌, Option, Some, None, refl, sym, ◌∙◌, ap}
+use Rattle.std.proofs.Common.{◌≡◌, ℕ, Bool, true, false, cond, List, [], length, Option, Some, None, refl, sym, ◌∙◌, ap}
 use Rattle.std.specs.Option.{is_none, unwrap_or, option_map}
 use Rattle.std.specs.Prelude.{not}
 use Rattle.std.specs.Cmp.Lexicographic.{slice_cmp}
@@ -8,14 +8,14 @@ use Rattle.std.specs.declared.cmp.Ordering.TheVariants.{Equal}
 use Rattle.std.specs.FinMap as map
 use Rattle.std.specs.FinMap.{slice_cmp-IsAntisymmetric, nat_cmp-IsAntisymmetric}
 use Rattle.tl_model.specs.Volume.{Name, Volume, at}
-use Rattle.tl_tool.specs.Run.{Run, nothing, database, dump_of, run_of, run_without, action_at, act_of, act_without, by_words, refused}
-use Rattle.tl_tool.specs.Outcome.{dump_over, act_over, run_over}
-use Rattle.tl_tool.specs.Stand.{stand, tree_of, is_journal, gate}
 use Rattle.tl_words.specs.declared.command.Action.{Action}
 use Rattle.tl_words.specs.declared.command.Action.TheVariants.{DumpTlpdb}
 use Rattle.tl_words.specs.Faults.{words_fault}
+use Rattle.tl_tool.specs.Run.{Run, database, database_text, dump_of, run_of, run_without, action_at, act_of, act_without, by_words, refused}
+use Rattle.tl_tool.specs.Outcome.{dump_over, act_over, run_over}
+use Rattle.tl_tool.specs.Stand.{stand, tree_of, is_journal, gate}
 use Rattle.tl_tool.specs.declared.refusal.Refusal.TheVariants.{Unbuilt}
-use Rattle.tl_tool.specs.declared.refusal.Missing.TheVariants.{Journal, Form}
+use Rattle.tl_tool.specs.declared.refusal.Missing.TheVariants.{Journal}
 
 -- the database stands in the tree as in the volume
 at-tree_of : (volume : Volume) → at (tree_of volume) database ≡ at volume database
@@ -26,12 +26,12 @@ at-tree_of volume =
     map.get-retain_keys volume keep database same
 
 -- over the tree that a volume stands for
-pub dump_over-tree : (volume tree : Volume) → stand volume ≡ Some tree → dump_over volume ≡ dump_of (at tree database)
+dump_over-tree : (volume tree : Volume) → stand volume ≡ Some tree → dump_over volume ≡ dump_of (database_text tree)
 unfolding stand
 dump_over-tree volume tree is = by (is_none (at volume gate)) is
   where
-    by : (b : Bool) → cond b (Some (tree_of volume)) None ≡ Some tree → cond b (dump_of (at volume database)) (refused (Unbuilt Journal)) ≡ dump_of (at tree database)
-    by true same = ap dump_of (sym (at-tree_of volume) ∙ ap (λ (o : Option Volume). at (unwrap_or o tree) database) same)
+    by : (b : Bool) → cond b (Some (tree_of volume)) None ≡ Some tree → cond b (dump_of (database_text volume)) (refused (Unbuilt Journal)) ≡ dump_of (database_text tree)
+    by true same = ap (λ (o : Option (List ℕ)). dump_of (unwrap_or o [])) (sym (at-tree_of volume) ∙ ap (λ (o : Option Volume). at (unwrap_or o tree) database) same)
     by false same = absurd (cc)
 
 act_over-tree : (action : Option Action) (volume tree : Volume) → stand volume ≡ Some tree → act_over action volume ≡ act_of action tree
@@ -46,7 +46,7 @@ dump_over-none : (volume : Volume) → stand volume ≡ None → dump_over volum
 unfolding stand
 dump_over-none volume is = by (is_none (at volume gate)) is
   where
-    by : (b : Bool) → cond b (Some (tree_of volume)) None ≡ None → cond b (dump_of (at volume database)) (refused (Unbuilt Journal)) ≡ refused (Unbuilt Journal)
+    by : (b : Bool) → cond b (Some (tree_of volume)) None ≡ None → cond b (dump_of (database_text volume)) (refused (Unbuilt Journal)) ≡ refused (Unbuilt Journal)
     by true same = absurd (cc)
     by false same = refl
 
@@ -57,29 +57,17 @@ act_over-none None volume is = refl
 pub run_over-none : (words : List (List ℕ)) (volume : Volume) → stand volume ≡ None → run_over words volume ≡ run_without words
 run_over-none words volume is = ap (λ (run : Run). by_words (words_fault words) run) (act_over-none (action_at words) volume is)
 
--- a database without bytes has no entry to say
-pub dump_of-empty : (o : Option (List ℕ)) → unwrap_or (option_map length o) 0 ≡ 0 → dump_of o ≡ nothing
-dump_of-empty None none = refl
-dump_of-empty (Some []) none = refl
-dump_of-empty (Some (b ∷ bytes)) none = absurd (omega arith)
-
--- a database that has bytes
-pub dump_of-full : (o : Option (List ℕ)) → (unwrap_or (option_map length o) 0 ≡ 0 → ⊥) → dump_of o ≡ refused (Unbuilt Form)
-dump_of-full None some = absurd (some refl)
-dump_of-full (Some []) some = absurd (some refl)
-dump_of-full (Some (b ∷ bytes)) some = refl
-
 -- a volume without a gate, and one that has a gate
-pub dump_over-shut : (volume : Volume) → None ≡ option_map length (at volume gate) → dump_over volume ≡ dump_of (at volume database)
+pub dump_over-shut : (volume : Volume) → None ≡ option_map length (at volume gate) → dump_over volume ≡ dump_of (database_text volume)
 dump_over-shut volume is = by (at volume gate) is
   where
-    by : (o : Option (List ℕ)) → None ≡ option_map length o → cond (is_none o) (dump_of (at volume database)) (refused (Unbuilt Journal)) ≡ dump_of (at volume database)
+    by : (o : Option (List ℕ)) → None ≡ option_map length o → cond (is_none o) (dump_of (database_text volume)) (refused (Unbuilt Journal)) ≡ dump_of (database_text volume)
     by None same = refl
     by (Some bytes) same = absurd (cc)
 
 pub dump_over-gate : (volume : Volume) (size : ℕ) → Some size ≡ option_map length (at volume gate) → dump_over volume ≡ refused (Unbuilt Journal)
 dump_over-gate volume size is = by (at volume gate) is
   where
-    by : (o : Option (List ℕ)) → Some size ≡ option_map length o → cond (is_none o) (dump_of (at volume database)) (refused (Unbuilt Journal)) ≡ refused (Unbuilt Journal)
+    by : (o : Option (List ℕ)) → Some size ≡ option_map length o → cond (is_none o) (dump_of (database_text volume)) (refused (Unbuilt Journal)) ≡ refused (Unbuilt Journal)
     by None same = absurd (cc)
     by (Some bytes) same = refl

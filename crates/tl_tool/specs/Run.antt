@@ -1,8 +1,13 @@
 -- The run of a command: what it says, the steps that it makes, and how it ends.
-use Rattle.std.specs.Prelude.{◌≡◌, ℕ, min, List, [], ◌∷◌, Option, Some, None, option_map, codes}
+use Rattle.std.specs.Prelude.{◌≡◌, ℕ, nat_lt, if◌then◌else◌, List, [], ◌∷◌, length, Option, Some, None, option_map, unwrap_or, Result, Ok, Err, codes}
 use Rattle.tl_model.specs.Volume.{Name, Volume, at}
 use Rattle.tl_model.specs.Seen.{Seen}
 use Rattle.tl_model.specs.Trace.{Event, Text, Trace, Cut, Paused}
+use Rattle.tl_object.specs.declared.object.Object.{Object}
+use Rattle.tl_object.specs.declared.fault.LineKind.{LineKind}
+use Rattle.tl_db.specs.Reading.{db_of}
+use Rattle.tl_db.specs.Text.{db_text}
+use Rattle.tl_db.specs.declared.fault.What.TheVariants.{Database, Packages}
 use Rattle.tl_words.specs.declared.faults.Fault.{Fault}
 use Rattle.tl_words.specs.declared.command.Action.{Action}
 use Rattle.tl_words.specs.declared.command.Action.TheVariants.{DumpTlpdb}
@@ -11,8 +16,8 @@ use Rattle.tl_words.specs.Commands.{first_action, action_of}
 use Rattle.tl_tool.specs.declared.ending.Ending.{Ending}
 use Rattle.tl_tool.specs.declared.ending.Ending.TheVariants.{Done, Refused, HostFault, NoMemory}
 use Rattle.tl_tool.specs.declared.refusal.Refusal.{Refusal}
-use Rattle.tl_tool.specs.declared.refusal.Refusal.TheVariants.{BadWords, Unbuilt}
-use Rattle.tl_tool.specs.declared.refusal.Missing.TheVariants.{Journal, Form}
+use Rattle.tl_tool.specs.declared.refusal.Refusal.TheVariants.{BadWords, BadDatabase, TooLarge, Unbuilt}
+use Rattle.tl_tool.specs.declared.refusal.Missing.TheVariants.{Journal}
 use Rattle.tl_tool.specs.Refusals.{refusal_line}
 use Rattle.tl_tool.specs.Stand.{stand}
 
@@ -21,9 +26,9 @@ pub record Run : Type 0 where
   pub events : List Event
   pub ending : Ending
 
--- the run that says nothing and is carried out
-abbrev pub nothing : Run
-nothing = record { events = []; ending = Done }
+-- the run that says a text, and is carried out
+abbrev pub saying : List ℕ → Run
+saying bytes = record { events = Text bytes ∷ []; ending = Done }
 
 -- the run that says a refusal and nothing else
 abbrev pub refused : Refusal → Run
@@ -33,11 +38,18 @@ refused refusal = record { events = Text (refusal_line refusal) ∷ []; ending =
 abbrev pub database : Name
 database = codes "tlpkg/texlive.tlpdb"
 
--- the run of `dump-tlpdb` over a database: an absent one and one of 0 bytes have no entry
-abbrev pub dump_of : Option (List ℕ) → Run
-dump_of None = nothing
-dump_of (Some []) = nothing
-dump_of (Some (b ∷ bytes)) = refused (Unbuilt Form)
+-- the text of the database of a tree; no bytes where it is absent
+abbrev pub database_text : Volume → List ℕ
+database_text tree = unwrap_or (at tree database) []
+
+-- the run of `dump-tlpdb` over what a database reads as: its text, where it has no more entries than the limit
+abbrev pub dump_entries : Result (List Object) (ℕ × LineKind) → Run
+dump_entries (Ok objects) = if nat_lt 65536 (length objects) then refused (TooLarge Packages 65536) else saying (db_text objects)
+dump_entries (Err fault) = refused (BadDatabase fault.0 fault.1)
+
+-- the run of `dump-tlpdb` over the text of a database
+abbrev pub dump_of : List ℕ → Run
+dump_of text = if nat_lt 268435456 (length text) then refused (TooLarge Database 268435456) else dump_entries (db_of text)
 
 -- the action that words without a fault ask for
 abbrev pub action_at : List (List ℕ) → Option Action
@@ -45,17 +57,17 @@ action_at words = option_map (action_of (program_parts words)) (first_action (pl
 
 -- the run of an action over a tree
 abbrev pub act_of : Option Action → Volume → Run
-act_of (Some (DumpTlpdb local)) tree = dump_of (at tree database)
-act_of None tree = nothing
+act_of (Some (DumpTlpdb local)) tree = dump_of (database_text tree)
+act_of None tree = saying []
 
 -- the run of an action over a volume that stands for no tree
 abbrev pub act_without : Option Action → Run
 act_without (Some (DumpTlpdb local)) = refused (Unbuilt Journal)
-act_without None = nothing
+act_without None = saying []
 
 -- words are refused at their first fault; without one their action's run is made
 abbrev pub by_words : Option Fault → Run → Run
-by_words (Some fault) run = refused (BadWords (min fault.at 4294967295) fault.kind)
+by_words (Some fault) run = refused (BadWords fault.at fault.kind)
 by_words None run = run
 
 -- the run of a command over a tree

@@ -1,13 +1,15 @@
 -- What an ending is.
 use Rattle.std.specs.Prelude.{ℕ}
 use Rattle.tl_tool.specs.declared.refusal.Refusal.{Refusal}
-use Rattle.tl_tool.specs.declared.refusal.Refusal.TheVariants.{BadWords, Unbuilt}
+use Rattle.tl_tool.specs.declared.refusal.Refusal.TheVariants.{BadWords, BadDatabase, TooLarge, Unbuilt}
 use Rattle.tl_tool.specs.declared.ending.Ending.{Ending}
 use Rattle.tl_tool.specs.declared.ending.Ending.TheVariants.{Done, Refused, HostFault, NoMemory}
 
 -- the status of a refusal: 2 for words that are no command, else 1
 abbrev pub refusal_status : Refusal → ℕ
 refusal_status (BadWords at kind) = 2
+refusal_status (BadDatabase line kind) = 1
+refusal_status (TooLarge what limit) = 1
 refusal_status (Unbuilt what) = 1
 
 -- 0 for a command that was carried out, 3 for a fault, 4 for want of memory

@@ -25,7 +25,7 @@ impl Ending {
         match self {
             Ending::Done => 0,
             Ending::Refused(Refusal::BadWords { .. }) => 2,
-            Ending::Refused(Refusal::Unbuilt(_)) => 1,
+            Ending::Refused(_) => 1,
             Ending::HostFault => 3,
             Ending::NoMemory => 4,
         }
@@ -47,7 +47,7 @@ mod tests {
         };
         assert_eq!(rt; Ending::Done.status(), 0);
         assert_eq!(rt;
-            Ending::Refused(Refusal::Unbuilt(Missing::Form)).status(),
+            Ending::Refused(Refusal::Unbuilt(Missing::Journal)).status(),
             1
         );
         assert_eq!(rt; Ending::Refused(bad).status(), 2);

@@ -2,8 +2,10 @@
 #![tactic(auto)]
 
 mod database;
+mod dump;
 mod ending;
 mod refusal;
+mod say;
 mod top;
 
 pub use ending::Ending;

@@ -1,7 +1,12 @@
 ghost use Rattle.std.specs.Prelude.{◌≡◌};
-ghost use Rattle.tl_tool.specs.Kinds.{word_kind_name};
+ghost use Rattle.tl_tool.specs.Kinds.{word_kind_name, line_kind_name, quantity_name};
+ghost use Rattle.tl_model.specs.Acks.{IsPlain};
+ghost use Rattle.tl_tool.specs.Refusals.{refusal_line};
+ghost use Rattle.tl_tool.specs.declared.refusal.Refusal.TheVariants.{BadWords, BadDatabase};
 
 use std::fmt;
+use tl_db::What;
+use tl_object::LineKind;
 use tl_words::WordKind;
 
 /// A part of the program that isn't built yet.
@@ -9,8 +14,6 @@ use tl_words::WordKind;
 pub enum Missing {
     /// The recovery of a volume that has a journal.
     Journal,
-    /// The reading of a database that has bytes.
-    Form,
 }
 
 /// Why a command was refused. As text it is the line that the program says, without the line end.
@@ -22,6 +25,20 @@ pub enum Refusal {
         at: u32,
         /// How they fail there.
         kind: WordKind,
+    },
+    /// The database doesn't read.
+    BadDatabase {
+        /// The first bad line, counted from 1.
+        line: u32,
+        /// What is wrong with it.
+        kind: LineKind,
+    },
+    /// A quantity passes its limit.
+    TooLarge {
+        /// The quantity.
+        what: What,
+        /// Its limit.
+        limit: u64,
     },
     /// It needs a part of the program that isn't built yet.
     Unbuilt(Missing),
@@ -37,9 +54,24 @@ impl Missing {
     {
         match self {
             Missing::Journal => "Journal",
-            Missing::Form => "Form",
         }
     }
+}
+
+// The refusal of words.
+pub(crate) fn bad_words(at: u32, kind: WordKind) -> Refusal
+    ensures refusal { result ≡ BadWords at kind }
+    ensures plain { IsPlain (refusal_line result) }
+{
+    Refusal::BadWords { at, kind }
+}
+
+// The refusal of a database.
+pub(crate) fn bad_database(line: u32, kind: LineKind) -> Refusal
+    ensures refusal { result ≡ BadDatabase line kind }
+    ensures plain { IsPlain (refusal_line result) }
+{
+    Refusal::BadDatabase { line, kind }
 }
 
 // The name of a kind, as a refusal has it.
@@ -58,6 +90,40 @@ fn word_kind_name(kind: WordKind) -> &'static str
     }
 }
 
+// The name of a kind of bad line, as a refusal has it.
+fn line_kind_name(kind: LineKind) -> &'static str
+    ensures { result.now ≡ line_kind_name kind }
+{
+    match kind {
+        LineKind::Missing => "Missing",
+        LineKind::Utf8 => "Utf8",
+        LineKind::Key => "Key",
+        LineKind::Value => "Value",
+        LineKind::Repeated => "Repeated",
+        LineKind::File => "File",
+        LineKind::TooLong => "TooLong",
+    }
+}
+
+// The name of a quantity, as a refusal has it.
+fn quantity_name(what: What) -> &'static str
+    ensures { result.now ≡ quantity_name what }
+{
+    match what {
+        What::Line => "Line",
+        What::Input => "Input",
+        What::Source => "Source",
+        What::Pins => "Pins",
+        What::Database => "Database",
+        What::Marks => "Marks",
+        What::File => "File",
+        What::Frame => "Frame",
+        What::Packages => "Packages",
+        What::Sources => "Sources",
+        What::Files => "Files",
+    }
+}
+
 impl fmt::Display for Refusal {
     ghost use Rattle.std.specs.Prelude.{Some};
     ghost use Rattle.tl_tool.specs.Refusals.{refusal_text};
@@ -69,6 +135,14 @@ impl fmt::Display for Refusal {
             Refusal::BadWords { at, kind } => {
                 let kind = word_kind_name(*kind);
                 write!(f, "tlmgr: BadWords at={at} kind={kind}")
+            }
+            Refusal::BadDatabase { line, kind } => {
+                let kind = line_kind_name(*kind);
+                write!(f, "tlmgr: BadDatabase line={line} kind={kind}")
+            }
+            Refusal::TooLarge { what, limit } => {
+                let what = quantity_name(*what);
+                write!(f, "tlmgr: TooLarge what={what} limit={limit}")
             }
             Refusal::Unbuilt(what) => {
                 let what = what.name();

@@ -1,75 +1,21 @@
-ghost use Rattle.std.specs.Prelude.{◌≡◌, ◌≤◌, ℕ, List, Some, None, IfOk, string_bytes};
-ghost use Rattle.tl_model.specs.Volume.{Volume, at};
+ghost use Rattle.std.specs.Prelude.{◌≡◌, ℕ, List, Some, None};
+ghost use Rattle.tl_model.specs.Volume.{Volume};
 ghost use Rattle.tl_model.specs.Seen.{Told, Could, moment};
 ghost use Rattle.tl_model.specs.Causes.{Rose};
 ghost use Rattle.tl_model.specs.Trace.{IsCut};
-ghost use Rattle.tl_tool.specs.Refusals.{refusal_line};
-ghost use Rattle.tl_tool.specs.Run.{KeepsNames, IsRun, run_of, run_without, dump_of, refused, database};
-ghost use Rattle.tl_tool.specs.Outcome.{IsOutcome, IsSaid, act_over, dump_over, run_over};
+ghost use Rattle.tl_tool.specs.Run.{KeepsNames, IsRun, run_of, run_without};
+ghost use Rattle.tl_tool.specs.Outcome.{IsOutcome, IsSaid, act_over, run_over};
 ghost use Rattle.tl_tool.specs.Stand.{stand};
 ghost use Rattle.tl_tool.specs.Status.{IsFault};
 ghost use Rattle.tl_words.specs.Inside.{texts};
 
-use crate::database::{database_size, gate_size};
+use crate::dump::dump;
 use crate::ending::Ending;
-use crate::refusal::{Missing, Refusal};
-use std::alloc::{AllocError, Global};
+use crate::refusal::bad_words;
+use crate::say::refuse;
+use std::alloc::Global;
 use tl_host::Host;
 use tl_words::{Action, WordsError, read_words};
-
-// The line that says a refusal.
-fn line_of(alloc: Global, refusal: &Refusal) -> Result<String, AllocError>
-    ensures { IfOk result (λ line. string_bytes line ≡ refusal_line refusal.now) }
-{
-    format!(in alloc; "{refusal}\n")
-}
-
-// Says a refusal, and ends with it.
-fn refuse<H: Host>(alloc: Global, refusal: Refusal, host: &mut H) -> Ending
-    ensures outcome { Told H.tells (IsOutcome (refused refusal) result (H.seen host.old) (H.seen host.new)) }
-    ensures cause { IsFault result → Rose (H.seen host.old).faults (H.seen host.new).faults }
-    ensures later { (H.seen host.old).faults ≤ (H.seen host.new).faults }
-{
-    match line_of(alloc, &refusal) {
-        Ok(line) => match host.say(line.as_bytes()) {
-            Ok(()) => Ending::Refused(refusal),
-            Err(_) => Ending::HostFault,
-        },
-        Err(_) => Ending::NoMemory,
-    }
-}
-
-// Says the database of a volume without a journal.
-fn dump_database<H: Host>(alloc: Global, host: &mut H) -> Ending
-    ensures outcome { Told H.tells (IsOutcome (dump_of (at (H.seen host.old).present.held database)) result
-        (H.seen host.old) (H.seen host.new)) }
-    ensures cause { IsFault result → Rose (H.seen host.old).faults (H.seen host.new).faults }
-    ensures later { (H.seen host.old).faults ≤ (H.seen host.new).faults }
-{
-    match database_size(host) {
-        Ok(size) => {
-            if size.unwrap_or(0) == 0 {
-                Ending::Done
-            } else {
-                refuse(alloc, Refusal::Unbuilt(Missing::Form), host)
-            }
-        }
-        Err(_) => Ending::HostFault,
-    }
-}
-
-// Carries out `dump-tlpdb`.
-fn dump<H: Host>(alloc: Global, host: &mut H) -> Ending
-    ensures outcome { Told H.tells (IsOutcome (dump_over (H.seen host.old).present.held) result
-        (H.seen host.old) (H.seen host.new)) }
-    ensures cause { IsFault result → Rose (H.seen host.old).faults (H.seen host.new).faults }
-{
-    match gate_size(host) {
-        Ok(None) => dump_database(alloc, host),
-        Ok(Some(_)) => refuse(alloc, Refusal::Unbuilt(Missing::Journal), host),
-        Err(_) => Ending::HostFault,
-    }
-}
 
 // Carries an action out.
 fn act<H: Host>(alloc: Global, action: &Action, host: &mut H) -> Ending
@@ -90,11 +36,7 @@ fn perform<H: Host>(alloc: Global, words: &[Vec<u8>], host: &mut H) -> Ending
 {
     match read_words(alloc, words) {
         Ok(command) => act(alloc, &command.action, host),
-        Err(WordsError::BadWords { at, kind }) => refuse(
-            alloc,
-            Refusal::BadWords { at, kind },
-            host,
-        ),
+        Err(WordsError::BadWords { at, kind }) => refuse(alloc, bad_words(at, kind), host),
         Err(WordsError::NoMemory) => Ending::NoMemory,
     }
 }

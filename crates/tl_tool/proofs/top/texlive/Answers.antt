@@ -8,13 +8,13 @@ use Rattle.tl_tool.specs.Outcome.{IsOutcome, IsSaid, run_over}
 use Rattle.tl_tool.specs.Stand.{stand}
 use Rattle.tl_tool.specs.declared.ending.Ending.{Ending}
 use Rattle.tl_tool.proofs.Trees.{run_over-tree, run_over-none}
-use Rattle.tl_tool.proofs.Outcomes.{lines-run_over, outcome_run, outcome_said, run_pictures}
+use Rattle.tl_tool.proofs.Outcomes.{outcome_run, outcome_said, run_pictures}
 use Rattle.tl_tool.proofs.top.texlive.Goals as goal
 
 -- the run over the tree
 made : (words : List (List ℕ)) (ending : Ending) (first last : Seen) (tree : Volume) → stand first.present.held ≡ Some tree → IsOutcome (run_over words first.present.held) ending first last → IsRun (run_of words tree) ending first last tree
 made words ending first last tree stood outcome = subst (λ (r : Run). IsRun r ending first last tree) (run_over-tree words first.present.held tree stood)
-    (outcome_run first last tree stood (run_over words first.present.held) ending (lines-run_over words first.present.held) outcome)
+    (outcome_run first last tree stood (run_over words first.present.held) ending outcome)
 
 pub returns-clause-run : goal.returns-clause-run
 returns-clause-run g c t tree stood =
