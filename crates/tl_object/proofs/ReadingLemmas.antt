@@ -86,9 +86,9 @@ pub section-more : (place : Place) (files more : List FileEntry) (before rest : 
     → is_file_line line ≡ true → file_step place files line ≡ Ok more → IsSection place more before rest
 section-more place files more before rest number line so_far is step groups head here =
     let next : next_groups (groups ++ group head files ∷ []) line ≡ Ok (groups ++ group head more ∷ []) =
-        file_next groups head files line is
-        ∙ ap (λ (p : Place). file_step p files line >>= λ fs. Ok (groups ++ group head fs ∷ [])) here
-        ∙ ap (λ (r : Result (List FileEntry) LineKind). r >>= λ fs. Ok (groups ++ group head fs ∷ [])) step in
+    file_next groups head files line is
+    ∙ ap (λ (p : Place). file_step p files line >>= λ fs. Ok (groups ++ group head fs ∷ [])) here
+    ∙ ap (λ (r : Result (List FileEntry) LineKind). r >>= λ fs. Ok (groups ++ group head fs ∷ [])) step in
     so_far groups head here ∙ ap (λ (r : Result (List Group) LineKind). at_line number r (λ gs. reading gs rest)) next
 
 failed : (e : LineFault) (place : Place) (head : Head) (files : List FileEntry) (line : List ℕ) (number : ℕ) (rest : List (ℕ × List ℕ)) (groups : List Group) (total : Result (List Group) (ℕ × LineKind))
@@ -97,9 +97,9 @@ failed : (e : LineFault) (place : Place) (head : Head) (files : List FileEntry) 
 failed faults.NoMemory place head files line number rest groups total fails here is so_far = tt
 failed (faults.Bad kind) place head files line number rest groups total fails here is so_far =
     let next : next_groups (groups ++ group head files ∷ []) line ≡ Err kind =
-        file_next groups head files line is
-        ∙ ap (λ (p : Place). file_step p files line >>= λ fs. Ok (groups ++ group head fs ∷ [])) here
-        ∙ ap (λ (r : Result (List FileEntry) LineKind). r >>= λ fs. Ok (groups ++ group head fs ∷ [])) fails in
+    file_next groups head files line is
+    ∙ ap (λ (p : Place). file_step p files line >>= λ fs. Ok (groups ++ group head fs ∷ [])) here
+    ∙ ap (λ (r : Result (List FileEntry) LineKind). r >>= λ fs. Ok (groups ++ group head fs ∷ [])) fails in
     so_far ∙ ap (λ (r : Result (List Group) LineKind). at_line number r (λ gs. reading gs rest)) next
 
 pub section-fails : (e : LineFault) (place : Place) (files : List FileEntry) (before rest : List (ℕ × List ℕ)) (number : ℕ) (line : List ℕ) → IsSection place files before ((number, line) ∷ rest)
@@ -181,7 +181,7 @@ head_next : (groups : List Group) (builder : Builder) (line : List ℕ) → Behi
     → next_groups groups line ≡ (head_step builder line >>= λ head. Ok (groups ++ group head [] ∷ []))
 head_next groups builder line some none kept named =
     let behind : next_groups groups line ≡ (line_value line >>= with_line groups) =
-        subst (λ (gs : List Group). next_groups gs line ≡ (line_value line >>= with_line gs)) (sym some.1.1) (next_groups-behind some.0 some.1.0 line) in
+    subst (λ (gs : List Group). next_groups gs line ≡ (line_value line >>= with_line gs)) (sym some.1.1) (next_groups-behind some.0 some.1.0 line) in
     behind ∙ head_by (line_value line) groups builder (no_file line none) kept named
 
 abbrev name_result : ℕ → List ℕ → Result (ℕ × List ℕ) (ℕ × LineKind)
@@ -202,7 +202,7 @@ pub reached-more : (groups : List Group) (builder : Builder) (all rest left : Li
 reached-more groups builder all rest left now number line head files more so_far is step section next after =
     let none : is_file_line line ≡ false = not_file line (sym (ap head_is_next is) ∙ so_far.next) in
     let one : next_groups groups line ≡ Ok (groups ++ group head [] ∷ []) =
-        head_next groups builder line so_far.some none so_far.kept so_far.named ∙ ap (λ (r : Result Head LineKind). r >>= λ h. Ok (groups ++ group h [] ∷ [])) step in
+    head_next groups builder line so_far.some none so_far.kept so_far.named ∙ ap (λ (r : Result Head LineKind). r >>= λ h. Ok (groups ++ group h [] ∷ [])) step in
     record {
       kept = after ∙ ap (λ (b : Builder). put b head files) so_far.kept ∙ sym (built-put groups head files);
       named = named-more groups (group head files) so_far.named;
@@ -232,9 +232,9 @@ pub reached-section_fails : (e : ObjectError) (groups : List Group) (builder : B
 reached-section_fails e groups builder all rest now number line head so_far is step fails =
     let none : is_file_line line ≡ false = not_file line (sym (ap head_is_next is) ∙ so_far.next) in
     let one : next_groups groups line ≡ Ok (groups ++ group head [] ∷ []) =
-        head_next groups builder line so_far.some none so_far.kept so_far.named ∙ ap (λ (r : Result Head LineKind). r >>= λ h. Ok (groups ++ group h [] ∷ [])) step in
+    head_next groups builder line so_far.some none so_far.kept so_far.named ∙ ap (λ (r : Result Head LineKind). r >>= λ h. Ok (groups ++ group h [] ∷ [])) step in
     let whole : entry_groups all ≡ reading (groups ++ group head [] ∷ []) rest =
-        so_far.same ∙ ap (reading groups) is ∙ ap (λ (r : Result (List Group) LineKind). at_line number r (λ gs. reading gs rest)) one in
+    so_far.same ∙ ap (reading groups) is ∙ ap (λ (r : Result (List Group) LineKind). at_line number r (λ gs. reading gs rest)) one in
     subst (λ (r : Result (List Group) (ℕ × LineKind)). FailsAt e r) (sym whole) (fails groups head refl)
 
 pub name-fails : (e : LineFault) (number : ℕ) (line : List ℕ) (all rest : List (ℕ × List ℕ)) → all ≡ (number, line) ∷ rest → Fails e (next_groups [] line) → FailsAt (fault_at number e) (entry_groups all)
@@ -247,7 +247,7 @@ pub name-section_fails : (e : ObjectError) (name : List ℕ) (number : ℕ) (lin
     → ((gs : List Group) (h : Head) → place_of h ≡ Nowhere → FailsAt e (reading (gs ++ group h [] ∷ []) rest)) → FailsAt e (entry_groups all)
 name-section_fails e name number line all rest is first fails =
     let whole : entry_groups all ≡ reading (group (heads.Name name) [] ∷ []) rest =
-        ap entry_groups is ∙ ap (λ (r : Result (List Group) LineKind). at_line number r (λ gs. reading gs rest)) first in
+    ap entry_groups is ∙ ap (λ (r : Result (List Group) LineKind). at_line number r (λ gs. reading gs rest)) first in
     subst (λ (r : Result (List Group) (ℕ × LineKind)). FailsAt e r) (sym whole) (fails [] (heads.Name name) refl)
 
 -- what a step gives isn't known yet

@@ -34,7 +34,10 @@ pub struct Builder {
     pub catalogue_facts: Facts,
 }
 
-const NO_CONTAINER: Container = Container { size: None, digest: None };
+const NO_CONTAINER: Container = Container {
+    size: None,
+    digest: None,
+};
 
 impl Builder {
     ghost use Rattle.tl_object.specs.declared.head.Head.TheVariants as heads;
@@ -99,22 +102,44 @@ impl Builder {
         }
     }
 
-    fn put_bin(&mut self, alloc: Global, platform: PlatformName, blocks: u64, files: DocFileList) -> Result<(), AllocError>
+    fn put_bin(
+        &mut self,
+        alloc: Global,
+        platform: PlatformName,
+        blocks: u64,
+        files: DocFileList,
+    ) -> Result<(), AllocError>
         requires { has_key (λ b. b.platform) platform self.old.bin ≡ false }
         ensures { OnOk result (self.new ≡ put self.old (heads.Binfiles platform blocks) files) }
     {
         let paths = files.into_paths(alloc)?;
-        self.bin.put(BinFiles { platform, blocks, paths })?;
+        self.bin.put(BinFiles {
+            platform,
+            blocks,
+            paths,
+        })?;
         Ok(())
     }
 
-    fn put_files(&mut self, alloc: Global, part: Part, blocks: u64, files: DocFileList) -> Result<(), AllocError>
+    fn put_files(
+        &mut self,
+        alloc: Global,
+        part: Part,
+        blocks: u64,
+        files: DocFileList,
+    ) -> Result<(), AllocError>
         ensures { OnOk result (self.new ≡ put self.old (heads.Files part blocks) files) }
     {
         match part {
-            Part::Run => self.run = Some(Files { blocks, paths: files.into_paths(alloc)? }),
+            Part::Run => self.run = Some(Files {
+                blocks,
+                paths: files.into_paths(alloc)?,
+            }),
             Part::Doc => self.doc = Some(DocFiles { blocks, files }),
-            Part::Src => self.src = Some(Files { blocks, paths: files.into_paths(alloc)? }),
+            Part::Src => self.src = Some(Files {
+                blocks,
+                paths: files.into_paths(alloc)?,
+            }),
         }
         Ok(())
     }
@@ -140,7 +165,12 @@ impl Builder {
     }
 
     /// Takes what a line says that isn't known yet, with the files that follow it.
-    pub(crate) fn put(&mut self, alloc: Global, head: Head, files: DocFileList) -> Result<(), AllocError>
+    pub(crate) fn put(
+        &mut self,
+        alloc: Global,
+        head: Head,
+        files: DocFileList,
+    ) -> Result<(), AllocError>
         requires { is_known self.old head ≡ false }
         ensures { OnOk result (self.new ≡ put self.old head files) }
     {
@@ -196,7 +226,10 @@ fn doc_or_none(alloc: Global, doc: Option<DocFiles>) -> DocFiles
 {
     match doc {
         Some(doc) => doc,
-        None => DocFiles { blocks: 0, files: DocFileList::new(Vec::new(alloc)) },
+        None => DocFiles {
+            blocks: 0,
+            files: DocFileList::new(Vec::new(alloc)),
+        },
     }
 }
 
@@ -205,6 +238,9 @@ fn files_or_none(alloc: Global, files: Option<Files>) -> Files
 {
     match files {
         Some(files) => files,
-        None => Files { blocks: 0, paths: Paths::new(Vec::new(alloc)) },
+        None => Files {
+            blocks: 0,
+            paths: Paths::new(Vec::new(alloc)),
+        },
     }
 }

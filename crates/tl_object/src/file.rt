@@ -13,7 +13,9 @@ use tl_path::Path;
 use tl_text::{Text, TextError};
 
 const BAD_FILE: LineFault = LineFault::Bad(LineKind::File);
+
 const DETAILS: &[u8] = b"details=\"";
+
 const LANGUAGE: &[u8] = b"language=\"";
 
 fn quoted<'a>(text: &'a [u8], word: &[u8]) -> Option<(&'a [u8], &'a [u8])>
@@ -57,14 +59,22 @@ fn marked_file(alloc: Global, path: Path, marks: &[u8]) -> Result<DocFile, LineF
     if let Some((details, rest)) = quoted(marks, DETAILS) {
         let details = Some(mark_of(alloc, details)?);
         let language = second_mark(alloc, LANGUAGE, rest)?;
-        return Ok(DocFile { path, details, language });
+        return Ok(DocFile {
+            path,
+            details,
+            language,
+        });
     }
     let Some((language, rest)) = quoted(marks, LANGUAGE) else {
         return Err(BAD_FILE);
     };
     let language = Some(mark_of(alloc, language)?);
     let details = second_mark(alloc, DETAILS, rest)?;
-    Ok(DocFile { path, details, language })
+    Ok(DocFile {
+        path,
+        details,
+        language,
+    })
 }
 
 /// The file of a line, without the space at its front.
@@ -74,7 +84,11 @@ pub(crate) fn file_of(alloc: Global, text: &[u8]) -> Result<DocFile, LineFault>
     match cut_at(text, b' ') {
         None => {
             let path = path_of(alloc, text)?;
-            Ok(DocFile { path, details: None, language: None })
+            Ok(DocFile {
+                path,
+                details: None,
+                language: None,
+            })
         }
         Some((path, marks)) => {
             let path = path_of(alloc, path)?;

@@ -7,12 +7,15 @@ ghost use Rattle.tl_object.specs.Grammar.{head_of, fact_of, keyed, head_value, l
 
 use crate::fault::{LineFault, LineKind};
 use crate::file::file_of;
-use crate::key::{Key, Part, key_of};
 use crate::form::is_fact_key;
+use crate::key::{Key, Part, key_of};
 use crate::lists::PlatformName;
 use crate::object::{DocFile, Fact};
 use crate::source::cut_at;
-use crate::value::{after_word, bin_of, blocks_of, category_of, digest_of, flag_of, name_of, number_of, small_number_of, text_of};
+use crate::value::{
+    after_word, bin_of, blocks_of, category_of, digest_of, flag_of, name_of, number_of,
+    small_number_of, text_of,
+};
 use std::alloc::{AllocError, Global};
 use tl_path::{Category, Name};
 use tl_text::{Text, TextError};

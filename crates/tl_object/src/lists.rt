@@ -316,7 +316,11 @@ fn paths_of(alloc: Global, files: Vec<DocFile>) -> Result<Vec<Path>, AllocError>
 {
     let mut paths = Vec::with_capacity(alloc, files.len())?;
     for file in files {
-        let DocFile { path, details: _, language: _ } = file;
+        let DocFile {
+            path,
+            details: _,
+            language: _,
+        } = file;
         paths.push(path)?;
     }
     Ok(paths)

@@ -44,10 +44,19 @@ fn put_file(place: Place, files: &mut DocFileList, file: DocFile) -> Result<(), 
         Place::Plain if is_marked => return Err(LineFault::Bad(LineKind::File)),
         _ => {}
     }
-    if files.add(file)? { Ok(()) } else { Err(LineFault::Bad(LineKind::Repeated)) }
+    if files.add(file)? {
+        Ok(())
+    } else {
+        Err(LineFault::Bad(LineKind::Repeated))
+    }
 }
 
-fn read_file(alloc: Global, place: Place, files: &mut DocFileList, line: &[u8]) -> Result<(), LineFault>
+fn read_file(
+    alloc: Global,
+    place: Place,
+    files: &mut DocFileList,
+    line: &[u8],
+) -> Result<(), LineFault>
     requires { is_file_line line.now ≡ true }
     ensures { MatchResult result (λ _. file_step place files.old line.now ≡ Ok files.new) (λ e. Fails e (file_step place files.old line.now)) }
 {
@@ -58,7 +67,13 @@ fn read_file(alloc: Global, place: Place, files: &mut DocFileList, line: &[u8]) 
 }
 
 /// The files of the lines at the front of a text that are files', and the text behind them.
-pub(crate) fn read_files(alloc: Global, stops: bool, place: Place, number: u32, text: &[u8]) -> Result<Section<'_>, ObjectError>
+pub(crate) fn read_files(
+    alloc: Global,
+    stops: bool,
+    place: Place,
+    number: u32,
+    text: &[u8],
+) -> Result<Section<'_>, ObjectError>
     requires { number + length text.now < 2 ^ 32 }
     ensures section { IfOk result (λ s. IsSection place s.files (entry_lines stops (content number text.now)) (entry_lines stops (content s.number s.rest.now))) }
     ensures next { IfOk result (λ s. head_is_next (entry_lines stops (content s.number s.rest.now)) ≡ true) }
@@ -83,7 +98,11 @@ pub(crate) fn read_files(alloc: Global, stops: bool, place: Place, number: u32, 
             Err(fault) => return Err(fault.at(found.number)),
         }
     }
-    Ok(Section { files, number, rest })
+    Ok(Section {
+        files,
+        number,
+        rest,
+    })
 }
 
 /// What a line says that is no file's and isn't known yet.
@@ -133,7 +152,12 @@ struct Parts<'a> {
 }
 
 /// The parts of an entry whose text stands behind this many lines.
-fn read_parts(alloc: Global, stops: bool, before: u32, text: &[u8]) -> Result<Parts<'_>, ObjectError>
+fn read_parts(
+    alloc: Global,
+    stops: bool,
+    before: u32,
+    text: &[u8],
+) -> Result<Parts<'_>, ObjectError>
     requires { before + length text.now < 2 ^ 32 }
     ensures parts { IfOk result (λ parts. (groups : List Group) × ((entry_groups (entry_lines stops (content before text.now)) ≡ Ok groups) × (parts.builder ≡ built groups))) }
     ensures name { IfOk result (λ parts. (line : ℕ) × (first_name (entry_lines stops (content before text.now)) ≡ Ok (line, parts.builder.name))) }
@@ -144,7 +168,10 @@ fn read_parts(alloc: Global, stops: bool, before: u32, text: &[u8]) -> Result<Pa
     ensures fault { IfErr result (λ e. FailsAt e (entry_groups (entry_lines stops (content before text.now)))) }
 {
     let Some(first) = next_entry_line(stops, before, text) else {
-        return Err(ObjectError::BadObject { line: 1, kind: LineKind::Missing });
+        return Err(ObjectError::BadObject {
+            line: 1,
+            kind: LineKind::Missing,
+        });
     };
     let name = match read_name(alloc, first.line) {
         Ok(name) => name,
@@ -170,7 +197,11 @@ fn read_parts(alloc: Global, stops: bool, before: u32, text: &[u8]) -> Result<Pa
         number = section.number;
         rest = section.rest;
     }
-    Ok(Parts { builder, number, rest })
+    Ok(Parts {
+        builder,
+        number,
+        rest,
+    })
 }
 
 /// An entry that was read, and the text behind it, with the number of lines before that text.
@@ -198,7 +229,11 @@ pub fn read_entry(alloc: Global, before: u32, text: &[u8]) -> Result<Entry<'_>, 
         Err(fault) => return Err(fault),
     };
     let object = parts.builder.finish(alloc);
-    Ok(Entry { object, number: parts.number, rest: parts.rest })
+    Ok(Entry {
+        object,
+        number: parts.number,
+        rest: parts.rest,
+    })
 }
 
 /// The name of the entry at the front of a text, and the number of its line.
@@ -215,10 +250,16 @@ pub fn read_entry_name(alloc: Global, before: u32, text: &[u8]) -> Result<Named,
     ensures fault { IfErr result (λ e. FailsAt e (first_name (front (content before text.now)))) }
 {
     let Some(first) = next_entry_line(true, before, text) else {
-        return Err(ObjectError::BadObject { line: 1, kind: LineKind::Missing });
+        return Err(ObjectError::BadObject {
+            line: 1,
+            kind: LineKind::Missing,
+        });
     };
     match read_name(alloc, first.line) {
-        Ok(name) => Ok(Named { name, line: first.number }),
+        Ok(name) => Ok(Named {
+            name,
+            line: first.number,
+        }),
         Err(fault) => Err(fault.at(first.number)),
     }
 }

@@ -17,7 +17,11 @@ fn next_try(low: usize, high: usize, len: usize) -> usize
     requires { low < high }
     ensures { (low ≤ result) × (result < high) }
 {
-    if high == len { high - 1 } else { low + (high - low) / 2 }
+    if high == len {
+        high - 1
+    } else {
+        low + (high - low) / 2
+    }
 }
 
 /// Where an element with this key goes in among elements that rise by their keys; `None` where one has this key.
@@ -37,4 +41,3 @@ pub fn place_for<T: Keyed>(items: &[T], wanted: &[u8]) -> Option<usize>
     }
     Some(low)
 }
-

@@ -121,7 +121,11 @@ fn platform_of(alloc: Global, bytes: &[u8]) -> Result<PlatformName, LineFault>
     Ok(PlatformName::new(Vec::from_slice(alloc, bytes)?))
 }
 
-fn platform_with(alloc: Global, platform: &[u8], sized: &[u8]) -> Result<(PlatformName, u64), LineFault>
+fn platform_with(
+    alloc: Global,
+    platform: &[u8],
+    sized: &[u8],
+) -> Result<(PlatformName, u64), LineFault>
     ensures { Gives result (platform_with platform.now sized.now) }
 {
     let name = platform_of(alloc, platform)?;

@@ -10,7 +10,7 @@ returns-in-Err-clause-fault c =
     let line = c.in-Some.found.line.now in let number = c.in-Some.found.number in
     let rest = entry_lines c.args.stops (content number c.in-Some.found.rest.now) in
     let so_far : IsSection c.args.place c.loop-found.files before ((number, line) ∷ rest) =
-        subst (λ (now : List (ℕ × List ℕ)). IsSection c.args.place c.loop-found.files before now) c.in-Some.ensures.line c.loop-found.invariant.section in
+    subst (λ (now : List (ℕ × List ℕ)). IsSection c.args.place c.loop-found.files before now) c.in-Some.ensures.line c.loop-found.invariant.section in
     let is : is_file_line line ≡ true = sym c.starts_file.ensures ∙ c.if-not-starts_file.false in
     λ groups head here. rw c.at.ensures (section-fails c.in-Err.fault c.args.place c.loop-found.files before rest number line so_far is c.in-Err.ensures groups head here)
 
@@ -20,7 +20,7 @@ loop-found-preserved c =
     let line = c.in-Some.found.line.now in let number = c.in-Some.found.number in
     let rest = entry_lines c.args.stops (content number c.in-Some.found.rest.now) in
     let so_far : IsSection c.args.place c.loop-found.files before ((number, line) ∷ rest) =
-        subst (λ (now : List (ℕ × List ℕ)). IsSection c.args.place c.loop-found.files before now) c.in-Some.ensures.line c.loop-found.invariant.section in
+    subst (λ (now : List (ℕ × List ℕ)). IsSection c.args.place c.loop-found.files before now) c.in-Some.ensures.line c.loop-found.invariant.section in
     let is : is_file_line line ≡ true = sym c.starts_file.ensures ∙ c.if-not-starts_file.false in
     record {
       section = section-more c.args.place c.loop-found.files c.read_file.new.files before rest number line so_far is c.in-Ok.ensures;

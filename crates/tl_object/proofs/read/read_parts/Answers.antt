@@ -17,9 +17,11 @@ pub loop-found-init : goal.loop-found-init
 loop-found-init c =
     let first = c.in-Some.first in let section = c.in-Ok-read_files.section in
     record {
-      reached = (group (heads.Name c.in-Ok.name) section.files ∷ [],
+      reached = (
+        group (heads.Name c.in-Ok.name) section.files ∷ [],
         reached-name c.in-Ok.name c.new-builder.result section.files first.number first.line.now (entry_lines c.args.stops (content c.args.before c.args.text.now)) (entry_lines c.args.stops (content first.number first.rest.now)) (entry_lines c.args.stops (content section.number section.rest.now))
-        c.in-Some.ensures.line c.in-Ok.ensures c.in-Ok-read_files.ensures.section c.in-Ok-read_files.ensures.next c.new-builder.ensures);
+            c.in-Some.ensures.line c.in-Ok.ensures c.in-Ok-read_files.ensures.section c.in-Ok-read_files.ensures.next c.new-builder.ensures,
+      );
       left = c.in-Some.ensures.left ∙ c.in-Ok-read_files.ensures.left;
       shorter = omega (arith, c.in-Ok-read_files.ensures.shorter, c.in-Some.ensures.shorter);
       fits = omega (arith, c.in-Ok-read_files.ensures.fits, c.in-Some.ensures.fits);
@@ -47,11 +49,13 @@ loop-found-preserved c =
     let head = c.in-Ok-read_head.head in let section = c.in-Ok-read_files-2.section in
     let rest = entry_lines c.args.stops (content found.number found.rest.now) in let left = entry_lines c.args.stops (content section.number section.rest.now) in
     let files : IsSection (place_of head) section.files rest left =
-        subst (λ (p : Place). IsSection p section.files rest left) c.place_of.ensures c.in-Ok-read_files-2.ensures.section in
+    subst (λ (p : Place). IsSection p section.files rest left) c.place_of.ensures c.in-Ok-read_files-2.ensures.section in
     record {
-      reached = (so_far.0 ++ group head section.files ∷ [],
+      reached = (
+        so_far.0 ++ group head section.files ∷ [],
         reached-more so_far.0 c.loop-found.builder (entry_lines c.args.stops (content c.args.before c.args.text.now)) rest left (entry_lines c.args.stops (content c.loop-found.number c.loop-found.rest.now)) found.number found.line.now head section.files c.put.new.self
-        so_far.1 c.in-Some-next_entry_line.ensures.line c.in-Ok-read_head.ensures files c.in-Ok-read_files-2.ensures.next c.in_ok-put.ensures);
+            so_far.1 c.in-Some-next_entry_line.ensures.line c.in-Ok-read_head.ensures files c.in-Ok-read_files-2.ensures.next c.in_ok-put.ensures,
+      );
       left = c.loop-found.invariant.left ∙ c.in-Some-next_entry_line.ensures.left ∙ c.in-Ok-read_files-2.ensures.left;
       shorter = omega (arith, c.loop-found.invariant.shorter, c.in-Ok-read_files-2.ensures.shorter, c.in-Some-next_entry_line.ensures.shorter);
       fits = omega (arith, c.loop-found.invariant.fits, c.in-Ok-read_files-2.ensures.fits, c.in-Some-next_entry_line.ensures.fits);

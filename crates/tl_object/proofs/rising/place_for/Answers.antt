@@ -15,10 +15,10 @@ loop-low-preserved-in-Less g c =
       in_order = omega arith;
       within = c.loop-low.invariant.within;
       below = λ k d h.
-        let at = get_or_read items middle _ lt c.index-items-middle.is d in
-        let here : comes_before (key (get_or items middle d)) c.args.wanted.now ≡ true =
-            ap (λ x. comes_before (key x) c.args.wanted.now) (sym at) ∙ ap (λ (t : List _). comes_before t c.args.wanted.now) (sym c.key.ensures) ∙ ap is_lt (sym c.cmp.ensures ∙ c.in-Less.is) in
-        below_all key c.args.wanted.now items middle d c.requires lt here k (omega arith);
+          let at = get_or_read items middle _ lt c.index-items-middle.is d in
+          let here : comes_before (key (get_or items middle d)) c.args.wanted.now ≡ true =
+          ap (λ x. comes_before (key x) c.args.wanted.now) (sym at) ∙ ap (λ (t : List _). comes_before t c.args.wanted.now) (sym c.key.ensures) ∙ ap is_lt (sym c.cmp.ensures ∙ c.in-Less.is) in
+          below_all key c.args.wanted.now items middle d c.requires lt here k (omega arith);
       above = c.loop-low.invariant.above;
     }
 
@@ -32,8 +32,8 @@ loop-low-preserved g c =
       within = omega arith;
       below = c.loop-low.invariant.below;
       above = λ k d le h.
-        let at = get_or_read items middle _ lt c.index-items-middle.is d in
-        let here : comes_before c.args.wanted.now (key (get_or items middle d)) ≡ true =
-            ap is_lt (nat_list_cmp_total.antisymm c.args.wanted.now (key (get_or items middle d)) ∙ ap ordering_reverse (ap (λ x. Rattle.std.specs.Cmp.Lexicographic.slice_cmp Rattle.std.specs.Ordering.nat_cmp (key x) c.args.wanted.now) (sym at) ∙ ap (λ (t : List _). Rattle.std.specs.Cmp.Lexicographic.slice_cmp Rattle.std.specs.Ordering.nat_cmp t c.args.wanted.now) (sym c.key.ensures) ∙ sym c.cmp.ensures ∙ c.in-Greater.is)) in
-        above_all key c.args.wanted.now items middle d c.requires lt here k le h;
+          let at = get_or_read items middle _ lt c.index-items-middle.is d in
+          let here : comes_before c.args.wanted.now (key (get_or items middle d)) ≡ true =
+          ap is_lt (nat_list_cmp_total.antisymm c.args.wanted.now (key (get_or items middle d)) ∙ ap ordering_reverse (ap (λ x. Rattle.std.specs.Cmp.Lexicographic.slice_cmp Rattle.std.specs.Ordering.nat_cmp (key x) c.args.wanted.now) (sym at) ∙ ap (λ (t : List _). Rattle.std.specs.Cmp.Lexicographic.slice_cmp Rattle.std.specs.Ordering.nat_cmp t c.args.wanted.now) (sym c.key.ensures) ∙ sym c.cmp.ensures ∙ c.in-Greater.is)) in
+          above_all key c.args.wanted.now items middle d c.requires lt here k le h;
     }

@@ -9,5 +9,5 @@ pub returns-in-Some : goal.returns-in-Some
 returns-in-Some c =
     let key = λ (b : BinFiles). b.platform in
     let place : IsPlace key c.args.platform.now c.args.self.now c.in-Some.field-0 =
-        subst (λ (bins : List BinFiles). IsPlace key c.args.platform.now bins c.in-Some.field-0) (c.as_slice.ensures.value ∙ c.self.view_is) c.in-Some.ensures in
+    subst (λ (bins : List BinFiles). IsPlace key c.args.platform.now bins c.in-Some.field-0) (c.as_slice.ensures.value ∙ c.self.view_is) c.in-Some.ensures in
     sym (absent_at key c.args.platform.now c.args.self.now c.in-Some.field-0 place)

@@ -1,0 +1,2 @@
+pub mod DbLemmas
+pub mod FindLemmas

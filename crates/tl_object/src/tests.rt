@@ -1,0 +1,160 @@
+use super::*;
+use std::alloc::Global;
+use std::test::*;
+
+fn fault_of(alloc: Global, text: &[u8]) -> Option<(u32, LineKind)> {
+    if text.len() > 1_000_000 {
+        return None;
+    }
+    match read_object(alloc, text) {
+        Err(ObjectError::BadObject { line, kind }) => Some((line, kind)),
+        _ => None,
+    }
+}
+
+fn written(alloc: Global, text: &[u8]) -> Result<Vec<u8>, ObjectError> {
+    if text.len() > 1_000_000 {
+        return Err(ObjectError::NoMemory);
+    }
+    let object = read_object(alloc, text)?;
+    Ok(write_object(alloc, &object)?)
+}
+
+const WHOLE: &[u8] =
+    b"name bar\ncategory TLCore\nrevision 15878\ncatalogue bar-ctan\nshortdesc Sets in a bar\nrelocated 1\nlongdesc First line.\nlongdesc Second line.\ndepend foo\ndepend foo.ARCH\nexecute addMap bar.map\npostaction shortcut\ncontainersize 2004\ndoccontainersize 376276\ndocfiles size=94\n RELOC/doc/README details=\"Read me\"\n RELOC/doc/bar.pdf details=\"Package documentation\" language=\"en\"\nsrccontainersize 18446744073709551615\nsrcfiles size=2\n RELOC/source/bar.dtx\nrunfiles size=1\n RELOC/tex/bar.sty\nbinfiles arch=linux size=2\n bin/linux/bar\n bin/linux/foo\nbinfiles arch=windows size=1\n bin/windows/bar.exe\ncatalogue-ctan /macros/bar\ncatalogue-license lppl\n";
+
+#[test]
+fn an_entry_in_order_is_written_as_it_was_read(rt: HostRuntime) -> Result<(), Fail> {
+    let text = written(rt.alloc(), WHOLE)?;
+    assert_eq!(rt; text.as_slice(), WHOLE);
+    Ok(())
+}
+
+#[test]
+fn an_entry_without_order_is_written_in_order(rt: HostRuntime) -> Result<(), Fail> {
+    let text = written(
+        rt.alloc(),
+        b"# a comment\nname a\n# another\nrevision 007\nbinfiles size=1 arch=windows\n bin/b\n bin/a\n bin/c\nshortdesc\nbinfiles arch=linux size=0\nrunfiles size=3\n# between\n z\n y\nrelocated 0",
+    )?;
+    assert_eq!(rt;
+        text.as_slice(),
+        b"name a\ncategory Package\nrevision 7\nshortdesc \nrunfiles size=3\n y\n z\nbinfiles arch=linux size=0\nbinfiles arch=windows size=1\n bin/a\n bin/b\n bin/c\n".as_slice()
+    );
+    Ok(())
+}
+
+#[test]
+fn each_kind_of_fault_is_found_at_its_line(rt: HostRuntime) {
+    let alloc = rt.alloc();
+    assert_eq!(rt; fault_of(alloc, b""), Some((1, LineKind::Missing)));
+    assert_eq!(rt;
+        fault_of(alloc, b"# x\n# y\n"),
+        Some((1, LineKind::Missing))
+    );
+    assert_eq!(rt;
+        fault_of(alloc, b"# x\nrevision 1\nname a\n"),
+        Some((2, LineKind::Missing))
+    );
+    assert_eq!(rt; fault_of(alloc, b"names a\n"), Some((1, LineKind::Missing)));
+    assert_eq!(rt; fault_of(alloc, b"name a b\n"), Some((1, LineKind::Value)));
+    assert_eq!(rt; fault_of(alloc, b"name a\r\n"), Some((1, LineKind::Value)));
+    assert_eq!(rt;
+        fault_of(alloc, b"name a\ncolour red\n"),
+        Some((2, LineKind::Key))
+    );
+    assert_eq!(rt;
+        fault_of(alloc, b"name a\ncolour \xff\n"),
+        Some((2, LineKind::Utf8))
+    );
+    assert_eq!(rt;
+        fault_of(alloc, b"name a\n# \xff\n\n"),
+        Some((3, LineKind::Key))
+    );
+    assert_eq!(rt;
+        fault_of(alloc, b"name a\nrevision 4294967296\n"),
+        Some((2, LineKind::Value))
+    );
+    assert_eq!(rt;
+        fault_of(alloc, b"name a\ncontainersize 18446744073709551616\n"),
+        Some((2, LineKind::Value))
+    );
+    assert_eq!(rt;
+        fault_of(alloc, b"name a\nrevision 1\nrevision 2\n"),
+        Some((3, LineKind::Repeated))
+    );
+    assert_eq!(rt;
+        fault_of(alloc, b"name a\nname a\n"),
+        Some((2, LineKind::Repeated))
+    );
+    assert_eq!(rt; fault_of(alloc, b"name a\n x\n"), Some((2, LineKind::File)));
+    assert_eq!(rt;
+        fault_of(alloc, b"name a\nrunfiles size=1\n x\nrevision 1\n y\n"),
+        Some((5, LineKind::File))
+    );
+}
+
+#[test]
+fn files_and_platforms_that_come_again_are_found(rt: HostRuntime) {
+    let alloc = rt.alloc();
+    assert_eq!(rt;
+        fault_of(alloc, b"name a\nrunfiles size=1\n x\n y\n x\n"),
+        Some((5, LineKind::Repeated))
+    );
+    assert_eq!(rt;
+        fault_of(alloc, b"name a\nrunfiles size=1\n x\nsrcfiles size=1\n x\n"),
+        None
+    );
+    assert_eq!(rt;
+        fault_of(alloc, b"name a\nrunfiles size=1\nrunfiles size=1\n"),
+        Some((3, LineKind::Repeated))
+    );
+    assert_eq!(rt;
+        fault_of(
+            alloc,
+            b"name a\nbinfiles arch=p size=1\nbinfiles arch=q size=1\nbinfiles size=2 arch=p\n"
+        ),
+        Some((4, LineKind::Repeated))
+    );
+    assert_eq!(rt;
+        fault_of(alloc, b"name a\nbinfiles arch=P size=1\n"),
+        Some((2, LineKind::Value))
+    );
+    assert_eq!(rt;
+        fault_of(alloc, b"name a\nrunfiles size=1\n x details=\"d\"\n"),
+        Some((3, LineKind::File))
+    );
+    assert_eq!(rt;
+        fault_of(
+            alloc,
+            b"name a\ndocfiles size=1\n x language=\"l\" details=\"d\"\n"
+        ),
+        None
+    );
+    assert_eq!(rt;
+        fault_of(alloc, b"name a\ndocfiles size=1\n x  details=\"d\"\n"),
+        Some((3, LineKind::File))
+    );
+    assert_eq!(rt;
+        fault_of(
+            alloc,
+            b"name a\ndocfiles size=1\n x details=\"d\" details=\"e\"\n"
+        ),
+        Some((3, LineKind::File))
+    );
+    assert_eq!(rt;
+        fault_of(alloc, b"name a\ndocfiles size=1\n ../x\n"),
+        Some((3, LineKind::File))
+    );
+    assert_eq!(rt;
+        fault_of(alloc, b"name a\ncontainerchecksum 00\n"),
+        Some((2, LineKind::Value))
+    );
+    assert_eq!(rt;
+        fault_of(alloc, b"name a\ncatalogue- x\n"),
+        Some((2, LineKind::Key))
+    );
+    assert_eq!(rt;
+        fault_of(alloc, b"name a\ncatalogue-X x\n"),
+        Some((2, LineKind::Key))
+    );
+}
