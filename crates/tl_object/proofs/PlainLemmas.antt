@@ -1,6 +1,6 @@
 -- What is written of an entry is whole lines, and none of them is an acknowledgement.
 use Rattle.std.proofs.Common.{◌≡◌, ℕ, zero, suc, ◌==◌, ◌/◌, ◌%◌, ◌^◌, ◌<◌, ◌≤◌, ltb, Bool, true, false, cond, not, ◌&&◌, List, [], ◌∷◌, ◌++◌, length, get_or, Option, Some, None, Result, Ok, Err, inl, inr, refl, sym, ◌∙◌, ap, subst, arith, append_assoc}
-use Rattle.std.specs.Prelude.{OnOk, codes, slice_index, nat_le}
+use Rattle.std.specs.Prelude.{OnOk, codes, slice_index}
 use Rattle.std.specs.Char.{is_ascii_digit}
 use Rattle.std.specs.Option.{option_map}
 use Rattle.std.specs.List.{list_all, position, position_or_len}
@@ -13,17 +13,14 @@ use Rattle.tl_model.specs.Decimal.{decimal_text, decimal_parts, IsDecimal-decima
 use Rattle.tl_model.specs.Acks.{is_ack, IsPlain, plain-nil, plain-line, plain-append, plain-literal}
 use Rattle.hex.specs.Hex.{encode_with, encode_lower, lower_digits}
 use Rattle.tl_text.specs.Texts.{IsText, IsLine-from_text}
-use Rattle.tl_path.specs.Bytes.{is_barred, is_letter_or_digit, is_of_name}
-use Rattle.tl_path.specs.Names.{is_name}
+use Rattle.tl_path.specs.Bytes.{is_barred}
 use Rattle.tl_path.specs.Path.{IsPath, fault, or_else, earlier, size_fault, utf8_fault, byte_fault, component_fault, place_fault}
 use Rattle.tl_path.specs.declared.fault.PathFault.{PathFault}
 use Rattle.tl_path.specs.declared.fault.PathKind.TheVariants.{Byte}
-use Rattle.tl_path.specs.declared.kinds.Category.{Category}
-use Rattle.tl_path.specs.declared.kinds.Category.TheVariants.{Package, TLCore, ConTeXt, Collection, Scheme}
 use Rattle.tl_object.specs.Forms.{is_platform_byte, is_platform}
 use Rattle.tl_object.specs.Parts.{FileEntry, FactEntry}
 use Rattle.tl_object.specs.Plain.{is_key}
-use Rattle.tl_object.specs.Writing.{key_line, path_line, mark_text, file_line, section_line, fact_line, category_word}
+use Rattle.tl_object.specs.Writing.{key_line, path_line, mark_text, file_line, section_line, fact_line}
 
 abbrev no_end : ℕ → Bool
 no_end b = not (b == 10)
@@ -65,23 +62,9 @@ pub line_of_number : (n : ℕ) → n < 2 ^ 64 → IsLine (decimal_text n)
 line_of_number n small =
     line_by is_ascii_digit (apart_from is_ascii_digit refl) (decimal_text n) (decimal_parts (decimal_text n) (IsDecimal-decimal_text n small)).1
 
-pub line_of_name : (name : List ℕ) → is_name name ≡ true → IsLine name
-line_of_name name is =
-    line_by is_of_name (apart_from is_of_name refl) name (last (nat_le 1 (length name)) (nat_le (length name) 128) (is_letter_or_digit (slice_index name 0)) (list_all is_of_name name) is)
-  where
-    last : (a b c d : Bool) → (a && (b && (c && d))) ≡ true → d ≡ true
-    last a b c d is = (both c d (both b (c && d) (both a (b && (c && d)) is).1).1).1
-
 pub line_of_platform : (platform : List ℕ) → is_platform platform ≡ true → IsLine platform
 line_of_platform platform is =
     line_by is_platform_byte (apart_from is_platform_byte refl) platform (both _ _ (both _ _ is).1).1
-
-pub line_of_category : (category : Category) → IsLine (category_word category)
-line_of_category Package = line_tested (codes "Package") refl
-line_of_category TLCore = line_tested (codes "TLCore") refl
-line_of_category ConTeXt = line_tested (codes "ConTeXt") refl
-line_of_category Collection = line_tested (codes "Collection") refl
-line_of_category Scheme = line_tested (codes "Scheme") refl
 
 -- no digit of a table, nor what stands for a digit behind its end, is a line end
 digit_apart : (table : List ℕ) (i : ℕ) → list_all no_end table ≡ true → (get_or table i 0 == 10) ≡ false

@@ -323,7 +323,6 @@ fn put_middle(out: &mut Vec<u8>, object: &Object) -> Result<(), AllocError>
     put_texts(out, b"postaction", object.postactions.as_slice())
 }
 
-#[tactic(auto, unfolding(crate::specs::Writing::file_lines))]
 fn put_all_files(out: &mut Vec<u8>, object: &Object) -> Result<(), AllocError>
     ensures written { OnOk result (out.new.items ≡ out.old.items ++ file_lines object.now) }
     ensures plain { OnOk result (IsPlain out.old.items → IsPlain out.new.items) }
