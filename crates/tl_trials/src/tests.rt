@@ -45,29 +45,50 @@ fn expect(
     Ok(())
 }
 
+const CANONICAL: &str = "name a
+category Package
+revision 7
+shortdesc An example
+runfiles size=1
+ texmf-dist/tex/a/a.sty
+
+";
+
+const LOOSE: &str = "# a comment
+
+name b
+runfiles size=2
+ b/z
+ b/a
+# another
+revision 3
+
+
+name a
+docfiles size=1
+ d/a language=\"en\" details=\"Read me\"
+";
+
+const LOOSE_PRINTED: &str = "name a
+category Package
+revision 0
+docfiles size=1
+ d/a details=\"Read me\" language=\"en\"
+
+name b
+category Package
+revision 3
+runfiles size=2
+ b/a
+ b/z
+
+";
+
+const DUMP: [&str; 3] = ["T", "dump-tlpdb", "--local"];
+
 #[test]
-fn commands_over_a_tree(rt: HostRuntime) -> Result<(), Fail> {
+fn faulty_words_are_refused_at_their_place(rt: HostRuntime) -> Result<(), Fail> {
     let alloc = rt.alloc();
-    let dump = ["T", "dump-tlpdb", "--local"].as_slice();
-    expect(&rt, alloc, &[], dump, "", 0)?;
-    expect(&rt, alloc, &[], &["T", "dump-tlpdb", "-local"], "", 0)?;
-    expect(&rt, alloc, &[(DATABASE, b"")], dump, "", 0)?;
-    expect(
-        &rt,
-        alloc,
-        &[(DATABASE, b"name a\n")],
-        dump,
-        "tlmgr: Unbuilt what=Form\n",
-        1,
-    )?;
-    expect(
-        &rt,
-        alloc,
-        &[("tlpkg/journal/gate", b"")],
-        dump,
-        "tlmgr: Unbuilt what=Journal\n",
-        1,
-    )?;
     expect(
         &rt,
         alloc,
@@ -88,9 +109,70 @@ fn commands_over_a_tree(rt: HostRuntime) -> Result<(), Fail> {
 }
 
 #[test]
+fn a_database_is_printed_in_its_canonical_form(rt: HostRuntime) -> Result<(), Fail> {
+    let alloc = rt.alloc();
+    expect(&rt, alloc, &[], &DUMP, "", 0)?;
+    expect(
+        &rt,
+        alloc,
+        &[(DATABASE, b"")],
+        &["T", "-local", "dump-tlpdb"],
+        "",
+        0,
+    )?;
+    expect(
+        &rt,
+        alloc,
+        &[(DATABASE, CANONICAL.as_bytes())],
+        &DUMP,
+        CANONICAL,
+        0,
+    )?;
+    expect(
+        &rt,
+        alloc,
+        &[(DATABASE, LOOSE.as_bytes())],
+        &DUMP,
+        LOOSE_PRINTED,
+        0,
+    )
+}
+
+#[test]
+fn a_bad_database_is_refused_at_its_first_bad_line(rt: HostRuntime) -> Result<(), Fail> {
+    let alloc = rt.alloc();
+    let key = b"name a\ncategory Package\nrevision 1\ncolour red\n";
+    expect(
+        &rt,
+        alloc,
+        &[(DATABASE, key)],
+        &DUMP,
+        "tlmgr: BadDatabase line=4 kind=Key\n",
+        1,
+    )?;
+    let name = b"name a\ncategory Package\nrevision 1\n\nname a\n";
+    expect(
+        &rt,
+        alloc,
+        &[(DATABASE, name)],
+        &DUMP,
+        "tlmgr: BadDatabase line=5 kind=Repeated\n",
+        1,
+    )?;
+    expect(
+        &rt,
+        alloc,
+        &[("tlpkg/journal/gate", b"")],
+        &DUMP,
+        "tlmgr: Unbuilt what=Journal\n",
+        1,
+    )
+}
+
+#[test]
 fn a_failing_call_ends_in_a_fault_and_nothing_else(rt: HostRuntime) -> Result<(), Fail> {
     let alloc = rt.alloc();
-    for call in 0..2u64 {
+    for call in 0..3u64 {
         let mut host = host(&rt, alloc, &[])?;
         host.fail_at(call)?;
         let (ending, host) = texlive(alloc, &words(alloc, &["T", "dump-tlpdb", "--local"])?, host);
