@@ -1,6 +1,6 @@
 -- Steps of the reading of a database.
-use Rattle.std.proofs.Common.{◌≡◌, ℕ, Bool, true, false, cond, List, [], ◌∷◌, Result, Ok, Err, refl, sym, ap, subst, ◌∙◌}
-use Rattle.tl_object.specs.Content.{content, front, behind, is_full, stretches}
+use Rattle.std.proofs.Common.{◌≡◌, ℕ, true, false, cond, List, [], Result, Ok, Err, sym, ap, subst, ◌∙◌}
+use Rattle.tl_object.specs.Content.{front, behind, is_full, stretches}
 use Rattle.tl_object.specs.Rising.{insert_by, has_key}
 use Rattle.tl_object.specs.Reading.{as_object, entry_groups, first_name, FailsAt}
 use Rattle.tl_object.specs.declared.object.Object.{Object}

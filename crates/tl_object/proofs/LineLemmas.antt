@@ -1,5 +1,5 @@
 -- Facts about single lines and the forms in them.
-use Rattle.std.proofs.Common.{◌≡◌, ℕ, zero, suc, ◌<◌, ◌≤◌, Bool, true, false, cond, ◌&&◌, ◌||◌, not, eqb, List, [], ◌∷◌, length, get_or, Option, Some, None, Result, Ok, Err, refl, sym, ap, subst, ◌∙◌, arith, rules}
+use Rattle.std.proofs.Common.{◌≡◌, ℕ, zero, suc, ◌<◌, Bool, true, false, cond, ◌&&◌, not, eqb, List, [], ◌∷◌, Option, Some, None, Err, refl, sym, ap, subst, ◌∙◌, arith}
 use Rattle.std.specs.Prelude.{IfSome, MatchOption}
 use denote.Ref.{Bor}
 use Rattle.std.specs.List.{list_all}
@@ -11,9 +11,8 @@ use Rattle.tl_text.specs.declared.text.TextError.{TextError}
 use Rattle.tl_text.specs.declared.text.TextError.TheVariants.{NotText}
 use Rattle.tl_text.specs.Texts.{is_text, IsText, IsText-from, IsTextFault}
 use Rattle.tl_object.specs.Cuts.{cut, onto_front}
-use Rattle.tl_object.specs.Forms.{is_low, is_fact_byte, is_fact_key, has_no_quote}
+use Rattle.tl_object.specs.Forms.{is_fact_byte, is_fact_key, has_no_quote}
 use Rattle.tl_object.specs.Grammar.{line_value, line_form}
-use Rattle.tl_object.specs.declared.head.Line.{Line}
 use Rattle.tl_object.specs.declared.fault.LineKind.TheVariants as kinds
 
 pub line_value-utf8 : (line : List ℕ) → IsUtf8 line → line_value line ≡ line_form line

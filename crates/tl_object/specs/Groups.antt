@@ -1,5 +1,5 @@
 -- The lines of an entry in groups, and what they say together.
-use Rattle.std.specs.Prelude.{ℕ, Bool, true, false, if◌then◌else◌, List, [], ◌∷◌, ◌++◌, map, fold, Option, Some, None, is_some, unwrap_or}
+use Rattle.std.specs.Prelude.{ℕ, Bool, true, false, if◌then◌else◌, List, [], map, fold, Option, Some, None, is_some, unwrap_or}
 use Rattle.std.specs.List.{filter_map}
 use Rattle.tl_path.specs.declared.kinds.Category.{Category}
 use Rattle.tl_path.specs.declared.kinds.Category.TheVariants.{Package}

@@ -1,7 +1,6 @@
 -- The keys of an entry's lines.
-use Rattle.std.specs.Prelude.{ℕ, Bool, if◌then◌else◌, List, codes, Option, Some, None}
+use Rattle.std.specs.Prelude.{ℕ, if◌then◌else◌, List, codes, Option, Some, None}
 use Rattle.std.specs.Str.{bytes_eq}
-use Rattle.tl_object.specs.declared.key.Part.{Part}
 use Rattle.tl_object.specs.declared.key.Part.TheVariants.{Run, Doc, Src}
 use Rattle.tl_object.specs.declared.key.Key.{Key}
 use Rattle.tl_object.specs.declared.key.Key.TheVariants.{Name, Category, Revision, Catalogue, Shortdesc, Relocated, Longdesc, Depend, Execute, Postaction, Size, Digest, Files, Binfiles}

@@ -1,5 +1,5 @@
 -- The run of `dump-tlpdb` by what a database reads as.
-use Rattle.std.proofs.Common.{◌≡◌, ℕ, ◌<◌, ◌≤◌, ◌^◌, Bool, true, false, cond, nat_lt, List, length, refl, sym, ◌∙◌, ap, inl, inr, arith, Result, Ok, Err}
+use Rattle.std.proofs.Common.{◌≡◌, ℕ, ◌<◌, ◌≤◌, ◌^◌, Bool, false, cond, nat_lt, List, length, sym, ◌∙◌, ap, inl, inr, arith}
 use Rattle.std.proofs.lemmas.Bool.{cases_Bool, lt-ltb, ltb-true}
 use Rattle.tl_object.specs.declared.object.Object.{Object}
 use Rattle.tl_object.specs.declared.fault.LineKind.{LineKind}
@@ -8,7 +8,7 @@ use Rattle.tl_db.specs.Text.{db_text}
 use Rattle.tl_db.specs.declared.fault.What.{What}
 use Rattle.tl_db.specs.declared.fault.What.TheVariants as what
 use Rattle.tl_db.specs.declared.fault.DbError.TheVariants as errors
-use Rattle.tl_tool.specs.Run.{Run, saying, refused, dump_entries, dump_of}
+use Rattle.tl_tool.specs.Run.{saying, refused, dump_entries, dump_of}
 use Rattle.tl_tool.specs.declared.refusal.Refusal.TheVariants.{BadDatabase, TooLarge}
 
 not_lt : (a b : ℕ) → b ≤ a → nat_lt a b ≡ false

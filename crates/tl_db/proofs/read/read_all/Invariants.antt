@@ -1,4 +1,4 @@
-use Rattle.std.proofs.Common.{◌≡◌, ◌+◌, ◌<◌, ◌≤◌, ◌^◌, length}
+use Rattle.std.proofs.Common.{◌≡◌, ◌+◌, ◌<◌, ◌^◌, length}
 use Rattle.tl_object.specs.Content.{content, stretches}
 use Rattle.tl_db.specs.Reading.{with_stretches, db_of}
 use Rattle.tl_db.proofs.read.read_all.Given as goal

@@ -7,5 +7,5 @@ use Rattle.tl_db.proofs.write.write_db.Given as goal
 abbrev pub invariant-loop-object : goal.invariant-loop-object
 invariant-loop-object l = record {
   written : l.out.items ≡ flat_map entry_text (take l.object-index l.object-items);
-  plain : IsPlain l.out.items
+  plain : IsPlain l.out.items;
 }

@@ -1,5 +1,3 @@
-use Rattle.std.proofs.Common.{sym, subst}
-use Rattle.tl_object.specs.Values.{Gives}
 use Rattle.tl_object.proofs.LineLemmas.{line_value-utf8, line_value-other}
 use Rattle.tl_object.proofs.head.line_of.Goals as goal
 

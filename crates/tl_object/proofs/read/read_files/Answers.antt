@@ -1,5 +1,5 @@
 use Rattle.std.proofs.Common.{◌≡◌, ◌∷◌, arith, sym, subst, ◌∙◌, List, ℕ, true}
-use Rattle.tl_object.specs.Content.{content, entry_lines, lines_left}
+use Rattle.tl_object.specs.Content.{content, entry_lines}
 use Rattle.tl_object.specs.Steps.{IsSection, is_file_line}
 use Rattle.tl_object.proofs.ReadingLemmas.{section-more, section-fails}
 use Rattle.tl_object.proofs.read.read_files.Goals as goal

@@ -1,4 +1,4 @@
-use Rattle.std.specs.Prelude.{true, false}
+use Rattle.std.specs.Prelude.{false}
 use Rattle.tl_object.specs.Content.{content, entry_lines}
 use Rattle.tl_object.specs.Reading.{entry_groups}
 use Rattle.tl_object.proofs.ReadingLemmas.{object-read, object-fails}

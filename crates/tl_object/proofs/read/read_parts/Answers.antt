@@ -1,5 +1,5 @@
-use Rattle.std.proofs.Common.{◌≡◌, ◌∷◌, ◌++◌, [], arith, sym, subst, ◌∙◌, ap, List, ℕ, true, false}
-use Rattle.tl_object.specs.Content.{content, entry_lines, lines_left}
+use Rattle.std.proofs.Common.{◌∷◌, ◌++◌, [], arith, sym, subst, ◌∙◌}
+use Rattle.tl_object.specs.Content.{content, entry_lines}
 use Rattle.tl_object.specs.Steps.{IsSection}
 use Rattle.tl_object.specs.Reading.{place_of}
 use Rattle.tl_object.specs.declared.head.Place.{Place}

@@ -1,4 +1,4 @@
-use Rattle.std.proofs.Common.{◌≡◌, ◌+◌, ◌≤◌, ◌<◌, ◌^◌, length, List}
+use Rattle.std.proofs.Common.{◌≡◌, ◌+◌, ◌≤◌, ◌<◌, length, List}
 use Rattle.tl_object.specs.Content.{content, entry_lines, lines_left}
 use Rattle.tl_object.specs.Groups.{Group}
 use Rattle.tl_object.proofs.ReadingLemmas.{Reached}

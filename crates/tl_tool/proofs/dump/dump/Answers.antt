@@ -1,4 +1,4 @@
-use Rattle.std.proofs.Common.{◌≡◌, ap, subst, sym, ◌∙◌}
+use Rattle.std.proofs.Common.{ap, subst, sym, ◌∙◌}
 use Rattle.tl_model.specs.Seen.{Moment}
 use Rattle.tl_tool.specs.Run.{Run, dump_of, database_text}
 use Rattle.tl_tool.specs.Outcome.{IsOutcome, dump_over}
