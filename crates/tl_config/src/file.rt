@@ -1,5 +1,5 @@
 //! The lines of an execute in each of the files.
-ghost use Rattle.std.specs.Prelude.{◌≡◌, ◌<◌, ◌^◌, ◌++◌, length, OnOk};
+ghost use Rattle.std.specs.Prelude.{◌≡◌, ◌<◌, ◌^◌, [], ◌++◌, length, IsTrue, OnOk};
 ghost use Rattle.std.specs.List.{flat_map};
 ghost use Rattle.tl_config.specs.Files as the_files;
 
@@ -42,6 +42,17 @@ impl ConfigFile {
         match self {
             ConfigFile::LanguageLua => "}\n",
             _ => "",
+        }
+    }
+
+    // Whether the first bytes of an execute's text show that it gives this file nothing.
+    fn skips(self, text: &[u8]) -> bool
+        ensures { IsTrue result → the_files.lines_of self text.now ≡ [] }
+    {
+        match self {
+            ConfigFile::Updmap => text.starts_with(b"A"),
+            ConfigFile::Fmtutil => text.starts_with(b"a") || text.starts_with(b"AddH"),
+            _ => text.starts_with(b"a") || text.starts_with(b"AddF"),
         }
     }
 }
@@ -90,7 +101,11 @@ pub fn push_executes(
     ensures { OnOk result (out.new.items ≡ out.old.items ++ flat_map (the_files.lines_of file) executes.now) }
 {
     for execute in executes {
-        push_lines(alloc, file, out, execute.bytes())?;
+        let text = execute.bytes();
+        if file.skips(text) {
+            continue;
+        }
+        push_lines(alloc, file, out, text)?;
     }
     Ok(())
 }
