@@ -18,14 +18,14 @@ const BODY2: &str = "tlpkg/journal/body2";
 
 const WHOLE: &[u8] = b"R\x00\x01aW\x00\x01b\x00\x00\x00\x00\x00\x00\x00\x02hiE";
 
-fn path(rt: &impl Abort, alloc: Global, text: &str) -> Path {
+pub(crate) fn path(rt: &impl Abort, alloc: Global, text: &str) -> Path {
     Path::parse(alloc, text.as_bytes())
         .ok()
         .expect(rt, "a path")
 }
 
 // A path that a record may change.
-fn target(rt: &impl Abort, alloc: Global, text: &str) -> Path
+pub(crate) fn target(rt: &impl Abort, alloc: Global, text: &str) -> Path
     ensures { is_outside result ≡ true }
 {
     let path = path(rt, alloc, text);
@@ -34,7 +34,11 @@ fn target(rt: &impl Abort, alloc: Global, text: &str) -> Path
 }
 
 // A host that holds these files.
-fn host(rt: &impl Abort, alloc: Global, files: &[(&str, &[u8])]) -> Result<MemHost, Fail> {
+pub(crate) fn host(
+    rt: &impl Abort,
+    alloc: Global,
+    files: &[(&str, &[u8])],
+) -> Result<MemHost, Fail> {
     let mut made = Vec::new(alloc);
     for (name, bytes) in files {
         let bytes = Bytes::new(Vec::from_slice(alloc, bytes)?);
@@ -57,7 +61,7 @@ fn recovered(rt: &impl Abort, host: MemHost, redone: bool) -> Clean<MemHost> {
 }
 
 // The journal is bad at this place where the gate is open at this body, and nothing has changed.
-fn bad(rt: &impl Abort, alloc: Global, body: &[u8], at: u64) -> Result<(), Fail> {
+pub(crate) fn bad(rt: &impl Abort, alloc: Global, body: &[u8], at: u64) -> Result<(), Fail> {
     let files = [
         (GATE, b"\x01".as_slice()),
         (BODY, body),
