@@ -28,15 +28,17 @@ const AFTER: Tree<'static> = Tree {
     c: Some(b"cde"),
 };
 
+const BODY_BEFORE: &[u8] = b"W\x00\x01b\x00\x00\x00\x00\x00\x00\x00\x05olderE";
+
 const STARTS: u64 = 3;
 
 // A host that stands for the tree before the change: with no journal, or with a gate that is open at the first or at the
-// second slot.
+// second slot, after a change that wrote b.
 fn start(rt: &impl Abort, alloc: Global, number: u64) -> Result<MemHost, Fail> {
     let a = ("a", b"x".as_slice());
     let b = ("b", b"older".as_slice());
-    let body = (BODY, b"E".as_slice());
-    let body2 = (BODY2, b"E".as_slice());
+    let body = (BODY, BODY_BEFORE);
+    let body2 = (BODY2, BODY_BEFORE);
     match number {
         0 => host(rt, alloc, &[a, b]),
         1 => host(rt, alloc, &[a, b, (GATE, b"\x01".as_slice()), body]),
