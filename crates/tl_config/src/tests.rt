@@ -67,6 +67,20 @@ fn the_lua_table_has_its_tabs_and_quotes(rt: HostRuntime) {
 }
 
 #[test]
+fn a_hyphenation_with_patterns_is_a_lua_file_of_ten_lines(rt: HostRuntime) {
+    let mut out = Vec::new(rt.alloc());
+    out.extend_from_slice(ConfigFile::LanguageLua.head().as_bytes())
+        .expect(&rt, "memory");
+    let text = b"AddHyphen name=ngerman synonyms=german,deutsch file=x.tex file_patterns=p.txt";
+    push_lines(rt.alloc(), ConfigFile::LanguageLua, &mut out, text).expect(&rt, "memory");
+    out.extend_from_slice(ConfigFile::LanguageLua.end().as_bytes())
+        .expect(&rt, "memory");
+    let want =
+        "-- language.dat.lua, written by tlmgr\nreturn {\n\t['ngerman'] = {\n\t\tloader = 'x.tex',\n\t\tlefthyphenmin = 2,\n\t\trighthyphenmin = 3,\n\t\tsynonyms = { 'german', 'deutsch' },\n\t\tpatterns = 'p.txt',\n\t},\n}\n";
+    assert!(rt; out.as_slice() == want.as_bytes());
+}
+
+#[test]
 fn executes_come_from_texts(rt: HostRuntime) {
     let text = Text::parse(rt.alloc(), b"addMap a.map").expect(&rt, "a text");
     let mut out = Vec::new(rt.alloc());
