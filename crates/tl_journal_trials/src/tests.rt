@@ -4,10 +4,11 @@ ghost use Rattle.tl_journal_text.specs.Records.{is_outside};
 use std::alloc::Global;
 use std::process::Abort;
 use std::test::Fail;
+use tl_file::{Bytes, FileBytes};
 use tl_host::Host;
 use tl_journal::{Clean, Journal, RecoverError, Staging};
 use tl_journal_text::is_outside;
-use tl_memhost::{Bytes, FileBytes, MemHost};
+use tl_memhost::MemHost;
 use tl_path::Path;
 
 const GATE: &str = "tlpkg/journal/gate";

@@ -4,7 +4,7 @@ use Rattle.std.specs.Option.{is_some}
 use Rattle.std.specs.FinMap as map
 use Rattle.std.proofs.lemmas.Bool.{true≢false}
 use Rattle.tl_model.specs.Volume.{Name, Volume, at, at-insert_here, at-insert_apart}
-use Rattle.tl_memhost.specs.declared.given.FileBytes.{FileBytes}
+use Rattle.tl_file.specs.declared.file.FileBytes.{FileBytes}
 use Rattle.std.specs.declared.alloc.Global.{Global}
 use Rattle.tl_memhost.specs.declared.given.MemError.{MemError}
 use Rattle.tl_memhost.specs.declared.given.MemError.TheVariants.{Repeated, NoMemory}

@@ -2,7 +2,7 @@
 use Rattle.std.specs.Prelude.{◌≡◌, List, [], ◌∷◌, ◌++◌, None, IsSome}
 use Rattle.std.specs.FinMap as map
 use Rattle.tl_model.specs.Volume.{Name, Volume, at}
-use Rattle.tl_memhost.specs.declared.given.FileBytes.{FileBytes}
+use Rattle.tl_file.specs.declared.file.FileBytes.{FileBytes}
 use Rattle.tl_memhost.specs.declared.given.MemError.{MemError}
 use Rattle.tl_memhost.specs.declared.given.MemError.TheVariants.{Repeated, NoMemory}
 

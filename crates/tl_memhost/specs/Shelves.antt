@@ -3,7 +3,7 @@ use Rattle.std.specs.Prelude.{◌≡◌, List, ◌∷◌, ◌++◌, Vec}
 use Rattle.std.specs.declared.alloc.Global.{Global}
 use Rattle.std.specs.List.{AllByRecursion}
 use Rattle.tl_model.specs.Volume.{Name}
-use Rattle.tl_memhost.specs.declared.given.FileBytes.{FileBytes}
+use Rattle.tl_file.specs.declared.file.FileBytes.{FileBytes}
 use Rattle.tl_memhost.specs.declared.given.MemError.{MemError}
 use Rattle.tl_memhost.specs.declared.given.MemError.TheVariants.{Repeated, NoMemory}
 use Rattle.tl_memhost.specs.Given.{AreApart, IsRepeated}

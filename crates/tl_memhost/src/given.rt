@@ -4,54 +4,8 @@ ghost use Rattle.tl_memhost.specs.Given.{given, AreApart, IsRefusal};
 
 use crate::files::Files;
 use std::alloc::Global;
-use std::marker::Model;
+use tl_file::FileBytes;
 use tl_path::Path;
-
-/// The bytes of a file.
-#[derive(Debug, Drop)]
-pub struct Bytes {
-    items: Vec<u8>,
-}
-
-impl Model for Bytes {
-    ghost use Rattle.std.specs.Prelude.{List, ℕ};
-
-    ghost Value = { List ℕ };
-
-    ghost view = { λ b. b.items.items };
-}
-
-impl Bytes {
-    /// These bytes, without memory.
-    pub fn new(items: Vec<u8>) -> Bytes
-        ensures { result ≡ items.items }
-    {
-        Bytes { items }
-    }
-
-    /// The bytes.
-    pub fn as_slice(&self) -> &[u8]
-        ensures { result.now ≡ self.now }
-    {
-        self.items.as_slice()
-    }
-
-    /// The bytes, given back without memory.
-    pub fn into_vec(self) -> Vec<u8>
-        ensures { result.items ≡ self }
-    {
-        self.items
-    }
-}
-
-/// A file: its path and what it holds.
-#[derive(Debug, Drop)]
-pub struct FileBytes {
-    /// Its path.
-    pub path: Path,
-    /// What it holds.
-    pub bytes: Bytes,
-}
 
 /// Why a device isn't made.
 #[derive(Debug, Drop)]

@@ -12,11 +12,12 @@ ghost use Rattle.tl_memhost.specs.Memory.{fresh, seen, before_call, is_named, lo
 
 use crate::changes::{enter, unsaid};
 use crate::files::Files;
-use crate::given::{FileBytes, MemError, files_of};
+use crate::given::{MemError, files_of};
 use crate::record::{Did, Entry, Named};
 use crate::stop::{Choice, StopError, go_back, leave};
 use std::alloc::{AllocError, Global};
 use std::marker::Model;
+use tl_file::FileBytes;
 use tl_host::Failed;
 use tl_path::Path;
 

@@ -12,7 +12,7 @@ mod shelf;
 mod source;
 mod stop;
 
-pub use given::{Bytes, FileBytes, MemError};
+pub use given::MemError;
 pub use host::MemHost;
 pub use shelf::MemShelf;
 pub use source::MemSource;

@@ -10,9 +10,10 @@ ghost use Rattle.tl_memhost.specs.Shelves.{IsShelfRefusal, EachApart};
 
 use crate::files::Files;
 use crate::fill::fill;
-use crate::given::{FileBytes, MemError, files_of};
+use crate::given::{MemError, files_of};
 use std::alloc::{AllocError, Global};
 use std::marker::Model;
+use tl_file::FileBytes;
 use tl_host::{Failed, Shelf};
 use tl_path::Path;
 

@@ -8,9 +8,9 @@ ghost use Rattle.tl_memhost.specs.Record.{standing, steps_of, touched_of, settle
 ghost use Rattle.tl_memhost.specs.Stop.{left, named, is_sync, Gives};
 
 use crate::files::Files;
-use crate::given::Bytes;
 use crate::record::{Did, Entry, Named};
 use std::alloc::{AllocError, Global};
+use tl_file::Bytes;
 
 /// What a stop leaves at each touched name.
 #[derive(Debug, Drop)]

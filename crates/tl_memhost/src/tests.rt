@@ -1,7 +1,8 @@
 // Each public call, with ample memory.
-use crate::{Bytes, Choice, FileBytes, MemError, MemHost, MemShelf, MemSource, StopError};
+use crate::{Choice, MemError, MemHost, MemShelf, MemSource, StopError};
 use std::alloc::Global;
 use std::test::Fail;
+use tl_file::{Bytes, FileBytes};
 use tl_host::{Failed, Host, Shelf, Source};
 use tl_path::{Path, PathRef};
 

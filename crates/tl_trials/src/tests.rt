@@ -1,8 +1,9 @@
 use std::alloc::Global;
 use std::process::Abort;
 use std::test::Fail;
+use tl_file::{Bytes, FileBytes};
 use tl_host::read_file;
-use tl_memhost::{Bytes, FileBytes, MemHost};
+use tl_memhost::MemHost;
 use tl_path::{Path, PathRef};
 use tl_tool::{Ending, texlive};
 

@@ -2,7 +2,7 @@ use Rattle.std.proofs.Common.{◌≡◌, ◌∙◌, [], ◌∷◌, ◌++◌, Lis
 use Rattle.std.specs.FinMap as map
 use Rattle.tl_model.specs.Volume.{Name, Volume, at}
 use Rattle.tl_memhost.specs.Given.{given}
-use Rattle.tl_memhost.specs.declared.given.FileBytes.{FileBytes}
+use Rattle.tl_file.specs.declared.file.FileBytes.{FileBytes}
 use Rattle.tl_memhost.proofs.Held.{contents}
 use Rattle.tl_memhost.proofs.Apart.{given_push, apart_push}
 use Rattle.tl_memhost.proofs.given.files_of.Goals as goal

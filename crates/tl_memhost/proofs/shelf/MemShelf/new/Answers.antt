@@ -1,6 +1,6 @@
 use Rattle.std.proofs.Common.{◌∙◌, ◌++◌, List, Vec, ap}
 use Rattle.std.specs.declared.alloc.Global.{Global}
-use Rattle.tl_memhost.specs.declared.given.FileBytes.{FileBytes}
+use Rattle.tl_file.specs.declared.file.FileBytes.{FileBytes}
 use Rattle.tl_memhost.proofs.Apart.{shelf_refusal}
 use Rattle.tl_memhost.proofs.shelf.MemShelf.new.Goals as goal
 

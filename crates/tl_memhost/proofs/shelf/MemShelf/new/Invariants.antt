@@ -1,7 +1,7 @@
 use Rattle.std.proofs.Common.{◌≡◌, ◌++◌, map, Vec}
 use Rattle.std.specs.declared.alloc.Global.{Global}
 use Rattle.std.specs.Vec.Iter.{into_iter_items}
-use Rattle.tl_memhost.specs.declared.given.FileBytes.{FileBytes}
+use Rattle.tl_file.specs.declared.file.FileBytes.{FileBytes}
 use Rattle.tl_memhost.specs.Given.{given}
 use Rattle.tl_memhost.specs.Shelves.{EachApart}
 use Rattle.tl_memhost.proofs.shelf.MemShelf.new.Given as goal

@@ -1,0 +1,4 @@
+pub mod Traces
+pub mod Planted
+pub mod Changes
+pub mod Answers

@@ -1,0 +1,13 @@
+//! The installed tree: its database, and the steps that change it whole or not at all.
+//!
+//! A step is made by the journal: from its commit on each stop leaves the tree with the whole change, before it the tree
+//! without it.
+#![tactic(auto)]
+
+mod change;
+mod error;
+mod tree;
+
+pub use change::{Change, Part, PartList};
+pub use error::{StepError, TreeError};
+pub use tree::Tree;
