@@ -13,3 +13,4 @@ pub mod Known
 pub mod Writing
 pub mod Steps
 pub mod Plain
+pub mod Copies

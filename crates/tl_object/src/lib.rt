@@ -2,6 +2,7 @@
 #![tactic(auto)]
 
 mod builder;
+mod copy;
 mod fault;
 mod file;
 mod form;
@@ -17,6 +18,7 @@ mod tests;
 mod value;
 mod write;
 
+pub use copy::{Copied, copies};
 pub use fault::{LineKind, ObjectError};
 pub use lists::{BinList, DocFileList, Facts, Paths, PlatformName, Texts};
 pub use object::{BinFiles, Container, DocFile, DocFiles, Fact, Files, Object};
