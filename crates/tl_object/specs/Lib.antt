@@ -14,3 +14,4 @@ pub mod Writing
 pub mod Steps
 pub mod Plain
 pub mod Copies
+pub mod FilePaths

@@ -5,6 +5,7 @@ mod builder;
 mod copy;
 mod fault;
 mod file;
+mod file_paths;
 mod form;
 mod head;
 mod key;
