@@ -1,14 +1,17 @@
 // The host's calls on each state of a journal.
-ghost use Rattle.std.specs.Prelude.{◌≡◌, ◌≤◌, [], length, take, drop, IfOk, IfSome, is_ok};
+ghost use Rattle.std.specs.Prelude.{◌≡◌, ◌<◌, ◌≤◌, [], length, take, drop, IfOk, IfSome, IsErrOf, is_ok};
 ghost use Rattle.std.specs.Option.{option_map, unwrap_or};
-ghost use Rattle.tl_model.specs.Causes.{HasCause};
+ghost use Rattle.tl_host.specs.Reading.{held_at};
+ghost use Rattle.tl_host.specs.declared.file.FileError.TheVariants.{TooLarge, HostFault as FileFault};
+ghost use Rattle.tl_model.specs.Causes.{HasCause, Rose};
 ghost use Rattle.tl_model.specs.Seen.{Told, Since, Quiet, Says};
 ghost use Rattle.tl_model.specs.Volume.{at, IsAfter, IsNext};
 ghost use Rattle.tl_path.specs.Path.{IsPath};
 ghost use Rattle.tl_journal_text.specs.Stand.{SaysFront};
 
 use crate::states::{Applied, Clean, Committed, Staging};
-use tl_host::{Failed, Host};
+use std::alloc::Global;
+use tl_host::{Failed, FileError, Host, read_file};
 use tl_path::PathRef;
 
 impl<H: Host> Applied<H> {
@@ -108,6 +111,25 @@ impl<H: Host> Clean<H> {
         ensures cause { HasCause self.old.faults self.new.faults result }
     {
         self.host.say(bytes)
+    }
+
+    /// Reads a whole file; `None` where the name is absent. `TooLarge` exactly where it has more than `limit` bytes,
+    /// `HostFault` only where the host's faults rose. Changes nothing. Of this crate's calls it alone takes memory.
+    pub fn read_file(
+        &mut self,
+        alloc: Global,
+        name: PathRef<'_>,
+        limit: u64,
+    ) -> Result<Option<Vec<u8>>, FileError>
+        ensures bytes { Told H.tells (IfOk result (λ found.
+            option_map (λ v. v.items) found ≡ at self.old.present.held name.entry)) }
+        ensures within { Told H.tells (IfOk result (λ found. length (held_at self.old name.entry) ≤ limit)) }
+        ensures large { Told H.tells (IsErrOf result TooLarge → limit < length (held_at self.old name.entry)) }
+        ensures same { Told H.tells (Quiet self.old self.new) }
+        ensures later { self.old.faults ≤ self.new.faults }
+        ensures cause { IsErrOf result FileFault → Rose self.old.faults self.new.faults }
+    {
+        read_file(alloc, &mut self.host, name, limit)
     }
 }
 

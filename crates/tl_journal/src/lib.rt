@@ -3,6 +3,7 @@
 //! `Journal::recover` makes a volume what it stands for and gives a `Clean` journal. `stage` begins a change, whose
 //! records `stage_remove`, `stage_write` and `begin_write` add; from the return of `commit` on each stop leaves the change
 //! made; `apply` carries it out, and `close` gives a `Clean` journal again. Each state owns the host; each change spends it.
+//! No call takes memory but `Clean::read_file`.
 #![tactic(auto)]
 
 mod body;

@@ -1,0 +1,82 @@
+-- What the answers of a tree's calls say.
+use Rattle.std.specs.Prelude.{◌≡◌, ◌≤◌, ◌<◌, ◌+◌, ℕ, true, List, [], ◌∷◌, length, Result, Ok, Err}
+use Rattle.tl_model.specs.Volume.{Volume}
+use Rattle.tl_model.specs.Seen.{Seen}
+use Rattle.tl_model.specs.Trace.{Event, Step, Trace, Cut}
+use Rattle.tl_object.specs.declared.object.Object.{Object}
+use Rattle.tl_db.specs.Reading.{db_of, HasTooMany}
+use Rattle.tl_db.specs.Text.{db_text}
+use Rattle.tl_db.specs.declared.fault.What.TheVariants as quantities
+use Rattle.tl_db.specs.declared.fault.What.{What}
+use Rattle.tl_journal_text.specs.Stand.{stand, tree_of}
+use Rattle.tl_tree.specs.Planted.{Planted}
+use Rattle.tl_tree.specs.Changes.{entries_after, has_entries, changed}
+use Rattle.tl_tree.specs.declared.change.Part.{Part}
+use Rattle.tl_tree.specs.declared.error.TreeError.{TreeError}
+use Rattle.tl_tree.specs.declared.error.TreeError.TheVariants as loading
+use Rattle.tl_tree.specs.declared.error.StepError.{StepError}
+use Rattle.tl_tree.specs.declared.error.StepError.TheVariants as stepping
+
+-- the cause of each refusal of a tree whose database has this text; a fault and want of memory have theirs elsewhere
+abbrev pub IsTreeError : List ℕ → TreeError → Type 0
+IsTreeError text (loading.BadDatabase line kind) = (length text ≤ 268435456) × (db_of text ≡ Err (line, kind))
+IsTreeError text (loading.TooLarge quantities.Database limit) = (268435456 < length text) × (limit ≡ 268435456)
+IsTreeError text (loading.TooLarge quantities.Packages limit) = (length text ≤ 268435456) × HasTooMany text × (limit ≡ 65536)
+IsTreeError text (loading.TooLarge other limit) = ⊥
+IsTreeError text loading.HostFault = Unit {0}
+IsTreeError text loading.NoMemory = Unit {0}
+
+-- the entries of a database are within its limits, and so is its text
+abbrev pub IsWithin : List Object → Type 0
+IsWithin db = (length db ≤ 65536) × (length (db_text db) ≤ 268435456)
+
+-- a quantity of a database passes its limit: its entries first, then its text
+abbrev pub IsTooLarge : List Object → What → ℕ → Type 0
+IsTooLarge db quantities.Packages limit = (65536 < length db) × (limit ≡ 65536)
+IsTooLarge db quantities.Database limit = (length db ≤ 65536) × (268435456 < length (db_text db)) × (limit ≡ 268435456)
+IsTooLarge db other limit = ⊥
+
+-- the step of a tree by a change with its label
+abbrev pub step_of : Planted → List Part → List ℕ → Event
+step_of tree parts label = Step (changed tree.db parts (tree_of tree.seen.present.held)) label
+
+-- what was seen of a tree's host up to a step that wasn't made or was cut off
+abbrev pub IsLostStep : Planted → List Part → List ℕ → StepError → Seen → Type 0
+IsLostStep tree parts label stepping.HostFault last =
+    Cut stand tree.seen last (tree_of tree.seen.present.held) (step_of tree parts label ∷ [])
+IsLostStep tree parts label stepping.NoMemory last = Trace stand tree.seen last (tree_of tree.seen.present.held) []
+IsLostStep tree parts label (stepping.TooLarge what limit) last = Trace stand tree.seen last (tree_of tree.seen.present.held) []
+
+-- the cause of a step that passes a limit of the database that it would leave
+abbrev pub IsStepError : Planted → List Part → StepError → Type 0
+IsStepError tree parts stepping.HostFault = Unit {0}
+IsStepError tree parts stepping.NoMemory = Unit {0}
+IsStepError tree parts (stepping.TooLarge what limit) = IsTooLarge (entries_after parts tree.db) what limit
+
+-- the cause of a refusal before any call of the host, where the database would have these entries
+abbrev pub IsPlanError : List Object → StepError → Type 0
+IsPlanError db stepping.HostFault = ⊥
+IsPlanError db stepping.NoMemory = Unit {0}
+IsPlanError db (stepping.TooLarge what limit) = IsTooLarge db what limit
+
+-- an answer names a limit
+abbrev pub HasLimit : StepError → Type 0
+HasLimit stepping.HostFault = ⊥
+HasLimit stepping.NoMemory = ⊥
+HasLimit (stepping.TooLarge what limit) = Unit {0}
+
+-- where a change speaks of an entry, the database that it leaves is within its limits
+abbrev pub IsAllowed : Planted → List Part → Type 0
+IsAllowed tree parts = has_entries parts ≡ true → IsWithin (entries_after parts tree.db)
+
+-- a step that was cut off by a fault had begun: its database was within its limits
+abbrev pub HasBegun : Planted → List Part → StepError → Type 0
+HasBegun tree parts stepping.HostFault = IsAllowed tree parts
+HasBegun tree parts stepping.NoMemory = Unit {0}
+HasBegun tree parts (stepping.TooLarge what limit) = Unit {0}
+
+-- a step that was cut off by a fault synced twice at most, and one that wasn't made for another cause synced nothing
+abbrev pub IsUnsynced : StepError → ℕ → ℕ → Type 0
+IsUnsynced stepping.HostFault before now = now ≤ before + 2
+IsUnsynced stepping.NoMemory before now = now ≡ before
+IsUnsynced (stepping.TooLarge what limit) before now = now ≡ before

@@ -1,0 +1,18 @@
+//! The installed tree: its database, and the steps that change it whole or not at all.
+//!
+//! A step is made by the journal: from its commit on each stop leaves the tree with the whole change, before it the tree
+//! without it.
+#![tactic(auto)]
+
+mod arrange;
+mod change;
+mod entries;
+mod error;
+mod leaving;
+mod load;
+mod stage;
+mod tree;
+
+pub use change::{Change, Part, PartList};
+pub use error::{StepError, TreeError};
+pub use tree::Tree;

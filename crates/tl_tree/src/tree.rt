@@ -1,0 +1,142 @@
+ghost use Rattle.std.specs.Prelude.{◌≡◌, ◌≤◌, ◌+◌, ◌∷◌, [], IfOk, IfErr, IsErrOf, is_ok};
+ghost use Rattle.tl_model.specs.Causes.{HasCause, Rose};
+ghost use Rattle.tl_model.specs.Seen.{Told, Quiet, Says};
+ghost use Rattle.tl_model.specs.Trace.{Trace};
+ghost use Rattle.tl_journal_text.specs.Stand.{stand, tree_of};
+ghost use Rattle.tl_db.specs.Reading.{IsRead};
+ghost use Rattle.tl_tree.specs.Planted.{database_text};
+ghost use Rattle.tl_tree.specs.Changes.{IsChange, entries_after, changed};
+ghost use Rattle.tl_tree.specs.Answers.{IsTreeError, IsWithin, IsAllowed, HasBegun, IsUnsynced, IsLostStep, IsStepError, step_of};
+ghost use Rattle.tl_tree.specs.declared.error.TreeError.TheVariants.{HostFault as LoadFault};
+ghost use Rattle.tl_tree.specs.declared.error.StepError.TheVariants.{HostFault as StepFault};
+
+use crate::arrange::arrange;
+use crate::change::Change;
+use crate::entries::plan_change;
+use crate::error::{StepError, TreeError};
+use crate::load::read_entries;
+use crate::stage::carry_out;
+use std::alloc::Global;
+use std::marker::Model;
+use tl_db::Db;
+use tl_host::{Failed, Host};
+use tl_journal::{Clean, Lost};
+
+/// An installed tree: a volume at rest, and the entries of its database.
+#[derive(Drop)]
+pub struct Tree<H: Host> {
+    pub(crate) journal: Clean<H>,
+    pub(crate) db: Db,
+}
+
+impl<H: Host> Model for Tree<H> {
+    ghost use Rattle.tl_tree.specs.Planted.{Planted, planted_code};
+    ghost use Rattle.tl_object.specs.contracts.object.Object as object;
+
+    ghost Value = { Planted };
+
+    ghost coded = { planted_code object.the_row.coded };
+
+    ghost view = { λ t. record { seen = t.journal; db = t.db } };
+}
+
+impl<H: Host> Tree<H> {
+    /// The tree of a volume at rest, whose database is read; an absent one is the empty one. In this order: `TooLarge` of
+    /// `Database`, `BadDatabase`, `TooLarge` of `Packages`, each exactly as `tl_db::read_db` gives it. `HostFault` comes only
+    /// where the host's faults rose. It reads the database alone, and changes nothing.
+    pub fn load(alloc: Global, journal: Clean<H>) -> Result<Tree<H>, Lost<H, TreeError>>
+        ensures db { Told H.tells (IfOk result (λ tree. IsRead (database_text (tree_of journal.present.held)) tree.db)) }
+        ensures same { Told H.tells (IfOk result (λ tree. Quiet journal tree.seen)) }
+        ensures later { IfOk result (λ tree. journal.faults ≤ tree.seen.faults) }
+        ensures error { Told H.tells (IfErr result (λ lost. IsTreeError (database_text (tree_of journal.present.held)) lost.fault)) }
+        ensures same_err { Told H.tells (IfErr result (λ lost. Quiet journal (H.seen lost.host))) }
+        ensures later_err { IfErr result (λ lost. journal.faults ≤ (H.seen lost.host).faults) }
+        ensures cause { IfErr result (λ lost. lost.fault ≡ LoadFault → Rose journal.faults (H.seen lost.host).faults) }
+    {
+        let mut journal = journal;
+        match read_entries(alloc, &mut journal) {
+            Ok(db) => Ok(Tree { journal, db }),
+            Err(fault) => Err(Lost {
+                host: journal.into_host(),
+                fault,
+            }),
+        }
+    }
+
+    /// The entries of the database. Takes no memory.
+    pub fn db(&self) -> &Db
+        ensures { result.now ≡ self.now.db }
+    {
+        &self.db
+    }
+
+    /// Gives the volume back as it is, at rest.
+    pub fn release(self) -> Clean<H>
+        ensures { result ≡ self.seen }
+    {
+        self.journal
+    }
+
+    /// Says bytes. Where it fails, a front of them is said.
+    pub fn say(&mut self, bytes: &[u8]) -> Result<(), Failed>
+        ensures says { Told H.tells (Says (is_ok result) bytes.now self.old.seen self.new.seen) }
+        ensures db { self.new.db ≡ self.old.db }
+        ensures cause { HasCause self.old.seen.faults self.new.seen.faults result }
+    {
+        self.journal.say(bytes)
+    }
+
+    /// Makes a step: in it all files of the old entries of the names put or removed leave, the files put and written come, the
+    /// paths erased go, and the database changes at those names and entries; where it does, the database and the five files made
+    /// from it are written. After the commit the label is said. Each picture that a stop may leave stands for the tree before
+    /// the step or after it, and for the latter once the label's line is whole.
+    ///
+    /// `TooLarge` comes exactly where the change speaks of an entry and the database that it would leave passes a limit:
+    /// `Packages`, 65,536 entries, before `Database`, 268,435,456 bytes. `HostFault` comes only where the host's faults rose;
+    /// `NoMemory` only before the commit. It syncs twice at most.
+    pub fn step(self, alloc: Global, change: &Change) -> Result<Tree<H>, Lost<H, StepError>>
+        requires { IsChange self.db change.now.parts change.now.label }
+        ensures db { IfOk result (λ tree. tree.db ≡ entries_after change.now.parts self.db) }
+        ensures within { IfOk result (λ tree. IsWithin self.db → IsWithin tree.db) }
+        ensures allowed { IfOk result (λ tree. IsAllowed self change.now.parts) }
+        ensures tree { Told H.tells (IfOk result (λ tree. tree_of tree.seen.present.held
+            ≡ changed self.db change.now.parts (tree_of self.seen.present.held))) }
+        ensures trace { Told H.tells (IfOk result (λ tree. Trace stand self.seen tree.seen (tree_of self.seen.present.held)
+            (step_of self change.now.parts change.now.label ∷ []))) }
+        ensures syncs { Told H.tells (IfOk result (λ tree. tree.seen.syncs ≤ self.seen.syncs + 2)) }
+        ensures later { IfOk result (λ tree. self.seen.faults ≤ tree.seen.faults) }
+        ensures error { IfErr result (λ lost. IsStepError self change.now.parts lost.fault) }
+        ensures begun { IfErr result (λ lost. HasBegun self change.now.parts lost.fault) }
+        ensures unsynced { Told H.tells (IfErr result (λ lost. IsUnsynced lost.fault self.seen.syncs (H.seen lost.host).syncs)) }
+        ensures lost { Told H.tells (IfErr result (λ lost. IsLostStep self change.now.parts change.now.label lost.fault (H.seen lost.host))) }
+        ensures syncs_err { Told H.tells (IfErr result (λ lost. (H.seen lost.host).syncs ≤ self.seen.syncs + 2)) }
+        ensures later_err { IfErr result (λ lost. self.seen.faults ≤ (H.seen lost.host).faults) }
+        ensures cause { IfErr result (λ lost. lost.fault ≡ StepFault → Rose self.seen.faults (H.seen lost.host).faults) }
+    {
+        let journal = self.journal;
+        let mut db = self.db;
+        journal.stands();
+        let parts = change.parts.as_slice();
+        let plan = match plan_change(alloc, &mut db, parts) {
+            Ok(plan) => plan,
+            Err(fault) => return Err(Lost {
+                host: journal.into_host(),
+                fault,
+            }),
+        };
+        let work = match arrange(alloc, plan.names, parts, plan.files.as_slice()) {
+            Ok(work) => work,
+            Err(_) => return Err(Lost {
+                host: journal.into_host(),
+                fault: StepError::NoMemory,
+            }),
+        };
+        match carry_out(journal, &work, change.label.as_slice()) {
+            Ok(journal) => Ok(Tree { journal, db }),
+            Err(lost) => Err(Lost {
+                host: lost.host,
+                fault: StepError::HostFault,
+            }),
+        }
+    }
+}
