@@ -13,3 +13,5 @@ pub mod Known
 pub mod Writing
 pub mod Steps
 pub mod Plain
+pub mod Formed
+pub mod Again
