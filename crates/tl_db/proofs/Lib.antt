@@ -1,2 +1,3 @@
 pub mod DbLemmas
 pub mod FindLemmas
+pub mod AgainLemmas

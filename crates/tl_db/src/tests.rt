@@ -45,6 +45,23 @@ fn entries_are_written_in_the_order_of_their_names(rt: HostRuntime) -> Result<()
 }
 
 #[test]
+fn three_entries_out_of_order_read_again_from_what_is_written(rt: HostRuntime) -> Result<(), Fail> {
+    let first = written(
+        rt.alloc(),
+        b"name b\nrevision 2\n\nname c\ndepend a\nrunfiles size=1\n y\n x\n\n\nname a\nshortdesc First\n",
+    )?;
+    assert_eq!(rt;
+        first.as_slice(),
+        b"name a\ncategory Package\nrevision 0\nshortdesc First\n\nname b\ncategory Package\nrevision 2\n\nname c\ncategory Package\nrevision 0\ndepend a\nrunfiles size=1\n x\n y\n\n".as_slice()
+    );
+    let second = written(rt.alloc(), first.as_slice())?;
+    assert_eq!(rt; second.as_slice(), first.as_slice());
+    let db = read_db(rt.alloc(), first.as_slice())?;
+    assert_eq!(rt; db.len(), 3);
+    Ok(())
+}
+
+#[test]
 fn the_first_bad_line_is_found(rt: HostRuntime) {
     let alloc = rt.alloc();
     assert_eq!(rt;
