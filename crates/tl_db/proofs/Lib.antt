@@ -3,3 +3,4 @@ pub mod FindLemmas
 pub mod OptionLemmas
 pub mod PlatformLemmas
 pub mod LineLemmas
+pub mod AgainLemmas

@@ -10,13 +10,16 @@ use Rattle.tl_db.specs.declared.fault.What.TheVariants as what
 use Rattle.tl_db.specs.declared.fault.DbError.{DbError}
 use Rattle.tl_db.specs.declared.fault.DbError.TheVariants.{BadDatabase, TooLarge, NoMemory}
 
+-- the number of a bad line and what is wrong with it
 abbrev pub Fault : Type 0
 Fault = ℕ × LineKind
 
+-- some entries and one more in its place, or the fault of that one
 abbrev pub with_object : List Object → Result Object Fault → Result (List Object) Fault
 with_object objects (Ok object) = Ok (insert_by (λ (o : Object). o.name) object objects)
 with_object objects (Err fault) = Err fault
 
+-- some entries and that of some lines, whose name and first line are these
 abbrev pub with_named : List Object → List (ℕ × List ℕ) → Result (ℕ × List ℕ) Fault → Result (List Object) Fault
 with_named objects lines (Ok (line, name)) =
     if has_key (λ (o : Object). o.name) name objects then Err (line, Repeated) else with_object objects (as_object (entry_groups lines))
@@ -26,6 +29,7 @@ with_named objects lines (Err fault) = Err fault
 abbrev pub with_stretch : List Object → List (ℕ × List ℕ) → Result (List Object) Fault
 with_stretch objects lines = with_named objects lines (first_name lines)
 
+-- the next step with the entries so far, or the fault that came before it
 abbrev pub going_on : Result (List Object) Fault → (List Object → Result (List Object) Fault) → Result (List Object) Fault
 going_on (Ok objects) next = next objects
 going_on (Err fault) next = Err fault
@@ -43,6 +47,7 @@ db_of text = with_stretches [] (stretches (content 0 text))
 abbrev pub IsRead : List ℕ → List Object → Type 0
 IsRead text objects = (length text ≤ 268435456) × (db_of text ≡ Ok objects) × (length objects ≤ 65536)
 
+-- the text has more entries than the limit
 abbrev pub HasTooMany : List ℕ → Type 0
 HasTooMany text = (objects : List Object) × ((db_of text ≡ Ok objects) × (65536 < length objects))
 

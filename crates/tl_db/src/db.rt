@@ -67,7 +67,8 @@ impl Db {
     }
 
     pub(crate) fn objects(&self) -> &[Object]
-        ensures { result.now ≡ self.now }
+        ensures objects { result.now ≡ self.now }
+        ensures rising { is_rising (λ o. o.name) self.now ≡ true }
     {
         self.objects.as_slice()
     }

@@ -1,3 +1,6 @@
+ghost use Rattle.std.specs.Prelude.{◌≡◌, MatchResult};
+ghost use Rattle.tl_db.specs.declared.fault.DbError.TheVariants.{NoMemory};
+
 use super::*;
 use std::alloc::Global;
 use std::test::*;
@@ -10,6 +13,20 @@ fn written(alloc: Global, text: &[u8]) -> Result<Vec<u8>, DbError> {
         Ok(text) => Ok(text),
         Err(_) => Err(DbError::NoMemory),
     }
+}
+
+// A database that is written and read is the database. Those of these tests are small.
+fn read_again(alloc: Global, db: &Db) -> Result<Db, DbError>
+    ensures { MatchResult result (λ again. again ≡ db.now) (λ e. e ≡ NoMemory) }
+{
+    let text = match write_db(alloc, db) {
+        Ok(text) => text,
+        Err(_) => return Err(DbError::NoMemory),
+    };
+    if text.len() > 1_000_000 || db.len() > 1_000 {
+        return Err(DbError::NoMemory);
+    }
+    read_db(alloc, text.as_slice())
 }
 
 fn bad_line_of(alloc: Global, text: &[u8]) -> Option<(u32, LineKind)> {
@@ -41,6 +58,24 @@ fn entries_are_written_in_the_order_of_their_names(rt: HostRuntime) -> Result<()
     assert_eq!(rt; db.entries().count(), 2);
     let none = written(rt.alloc(), b"")?;
     assert_eq!(rt; none.len(), 0);
+    Ok(())
+}
+
+#[test]
+fn three_entries_out_of_order_read_again_from_what_is_written(rt: HostRuntime) -> Result<(), Fail> {
+    let first = written(
+        rt.alloc(),
+        b"name b\nrevision 2\n\nname c\ndepend a\nrunfiles size=1\n y\n x\n\n\nname a\nshortdesc First\n",
+    )?;
+    assert_eq!(rt;
+        first.as_slice(),
+        b"name a\ncategory Package\nrevision 0\nshortdesc First\n\nname b\ncategory Package\nrevision 2\n\nname c\ncategory Package\nrevision 0\ndepend a\nrunfiles size=1\n x\n y\n\n".as_slice()
+    );
+    let second = written(rt.alloc(), first.as_slice())?;
+    assert_eq!(rt; second.as_slice(), first.as_slice());
+    let db = read_db(rt.alloc(), first.as_slice())?;
+    let again = read_again(rt.alloc(), &db)?;
+    assert_eq!(rt; again.len(), 3);
     Ok(())
 }
 

@@ -6,3 +6,10 @@ pub mod BuiltLemmas
 pub mod ReadingLemmas
 pub mod StretchLemmas
 pub mod PlainLemmas
+pub mod ValueLemmas
+pub mod HeadLemmas
+pub mod FileLemmas
+pub mod LastLemmas
+pub mod AgainLemmas
+pub mod FieldLemmas
+pub mod RoundTrip

@@ -1,12 +1,12 @@
 -- What is written of an entry is whole lines, and none of them is an acknowledgement.
-use Rattle.std.proofs.Common.{◌≡◌, ℕ, zero, suc, ◌==◌, ◌/◌, ◌%◌, ◌^◌, ◌<◌, ◌≤◌, ltb, Bool, true, false, cond, not, ◌&&◌, List, [], ◌∷◌, ◌++◌, length, get_or, Option, Some, None, Result, Ok, Err, inl, inr, refl, sym, ◌∙◌, ap, subst, arith, append_assoc}
-use Rattle.std.specs.Prelude.{OnOk, codes, slice_index}
+use Rattle.std.proofs.Common.{◌≡◌, ℕ, zero, suc, ◌+◌, ◌==◌, ◌/◌, ◌%◌, ◌^◌, ◌<◌, ◌≤◌, ltb, Bool, true, false, cond, not, ◌&&◌, List, [], ◌∷◌, ◌++◌, length, get_or, take, Option, Some, None, Result, Ok, Err, inl, inr, refl, sym, ◌∙◌, ap, subst, arith, append_assoc}
+use Rattle.std.specs.Prelude.{All, OnOk, codes, slice_index}
 use Rattle.std.specs.Char.{is_ascii_digit}
 use Rattle.std.specs.Option.{option_map}
 use Rattle.std.specs.List.{list_all, position, position_or_len}
 use Rattle.std.proofs.lemmas.Bool.{cases_Bool, true≢false, eqb-true, ltb-false}
 use Rattle.std.proofs.lemmas.List.{append-nil}
-use Rattle.std.proofs.lemmas.List.Elements.{All-nil, All-cons, All-append}
+use Rattle.std.proofs.lemmas.List.Elements.{All-nil, All-cons, All-append, All-weaker, All-more}
 use Rattle.std.proofs.lemmas.List.Sums.{prefix_len_passes}
 use Rattle.tl_model.specs.Lines.{IsLine}
 use Rattle.tl_model.specs.Decimal.{decimal_text, decimal_parts, IsDecimal-decimal_text}
@@ -98,14 +98,19 @@ no_position : (t : Bool) (n : ℕ) → cond t (Some n) None ≡ None → t ≡ f
 no_position true n is = absurd (cc)
 no_position false n is = refl
 
-pub line_of_path : (path : List ℕ) → IsPath path → IsLine path
-line_of_path path is =
+-- no byte of a path is barred
+pub unbarred : (path : List ℕ) → IsPath path → All (λ b. not (is_barred b) ≡ true) path
+unbarred path is =
     let place : place_fault path ≡ None = (no_earlier (utf8_fault path) (place_fault path) (no_fault (size_fault path) (earlier (utf8_fault path) (place_fault path)) is)).1 in
     let byte : byte_fault path ≡ None = (no_earlier (byte_fault path) (component_fault path) place).0 in
     let at = position_or_len is_barred path in
     let none : ltb at (length path) ≡ false = no_position (ltb at (length path)) at (no_byte (position is_barred path) byte) in
     let behind : length path ≤ at = ltb-false at (length path) none in
-    λ k d within. apart_from (λ b. not (is_barred b)) refl (get_or path k d) (prefix_len_passes (λ b. not (is_barred b)) path k d (omega arith))
+    λ k d within. prefix_len_passes (λ b. not (is_barred b)) path k d (omega arith)
+
+pub line_of_path : (path : List ℕ) → IsPath path → IsLine path
+line_of_path path is =
+    All-weaker (λ b. not (is_barred b) ≡ true) (λ b. (b == 10) ≡ false) (λ b e. apart_from (λ c. not (is_barred c)) refl b e) path (unbarred path is)
 
 -- the front of a line that is no acknowledgement, however it goes on
 pub record IsBegun (bytes : List ℕ) : Type 0 where
@@ -186,6 +191,15 @@ plain_written old new lines is near far = subst IsPlain (sym is) (plain-append o
 pub on_ok : {T E P : Type 0} (r : Result T E) → P → OnOk r P
 on_ok (Ok x) p = p
 on_ok (Err e) p = tt
+
+-- what follows from what a call shows where it succeeded
+pub on_more : {T E P Q : Type 0} (r : Result T E) → (P → Q) → OnOk r P → OnOk r Q
+on_more (Ok x) f p = f p
+on_more (Err e) f p = tt
+
+-- what holds of some elements holds with the next one
+pub each_more : {X : Type 0} (P : X → Type 0) (xs : List X) (i : ℕ) (x : X) → i < length xs → x ≡ get_or xs i x → P x → All P (take i xs) → All P (take (i + 1) xs)
+each_more P xs i x lt is here each = All-more P xs i x lt each (subst P is here)
 
 -- a call that wrote plain lines where it succeeded
 pub plain_behind : {T E : Type 0} (r : Result T E) (old new lines : List ℕ) → OnOk r (new ≡ old ++ lines) → IsPlain lines → OnOk r (IsPlain old → IsPlain new)

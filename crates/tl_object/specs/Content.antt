@@ -38,9 +38,11 @@ abbrev pub lines_left : Bool → List (ℕ × List ℕ) → List (ℕ × List �
 lines_left false lines = []
 lines_left true lines = behind lines
 
+-- whether a line is empty
 abbrev pub is_empty_line : ℕ × List ℕ → Bool
 is_empty_line line = length line.1 == 0
 
+-- whether there is a line
 abbrev pub is_full : List (ℕ × List ℕ) → Bool
 is_full [] = false
 is_full (line ∷ others) = true

@@ -23,12 +23,15 @@ use Rattle.tl_object.specs.Parts.{FileEntry}
 abbrev pub quoted : List ℕ → List ℕ → Option (List ℕ × List ℕ)
 quoted word text = option_and_then (cut 34) (stripped word text)
 
+-- what stands before a file's details
 abbrev pub details_word : List ℕ
 details_word = codes "details=\""
 
+-- what stands before a file's language
 abbrev pub language_word : List ℕ
 language_word = codes "language=\""
 
+-- the text of a mark, where it is a text of one line
 abbrev pub mark_value : List ℕ → Result (List ℕ) LineKind
 mark_value text = formed (is_text text) text kinds.File
 
@@ -45,6 +48,7 @@ abbrev pub second_mark : List ℕ → List ℕ → Result (Option (List ℕ)) Li
 second_mark word [] = Ok None
 second_mark word (b ∷ rest) = if b == 32 then last_mark (quoted word rest) else Err kinds.File
 
+-- the details and the language, from a mark of details or else of a language at the front
 abbrev pub marks_from : Option (List ℕ × List ℕ) → Option (List ℕ × List ℕ) → Result (Option (List ℕ) × Option (List ℕ)) LineKind
 marks_from (Some details) other = do
   first ← mark_value details.0
@@ -60,11 +64,13 @@ marks_from None None = Err kinds.File
 abbrev pub marks_value : List ℕ → Result (Option (List ℕ) × Option (List ℕ)) LineKind
 marks_value marks = marks_from (quoted details_word marks) (quoted language_word marks)
 
+-- a file with the marks that a text states
 abbrev pub marked_file : List ℕ → List ℕ → Result FileEntry LineKind
 marked_file path text = do
   marks ← marks_value text
   Ok (record { path = path; details = marks.0; language = marks.1 })
 
+-- the file of a line, cut at its first space
 abbrev pub file_with : List ℕ → Option (List ℕ × List ℕ) → Result FileEntry LineKind
 file_with text None = do
   path ← path_value text
@@ -79,6 +85,7 @@ file_value text = file_with text (cut 32 text)
 
 -- ---- the other lines
 
+-- what a line with this key says by its value
 abbrev pub head_of : Key → List ℕ → Result Head LineKind
 head_of keys.Name value = name_value value >>= λ name. Ok (heads.Name name)
 head_of keys.Category value = category_value value >>= λ category. Ok (heads.Category category)
@@ -95,6 +102,7 @@ head_of (keys.Digest part) value = digest_value value >>= λ digest. Ok (heads.D
 head_of (keys.Files part) value = blocks_value value >>= λ blocks. Ok (heads.Files part blocks)
 head_of keys.Binfiles value = bin_value value >>= λ bin. Ok (heads.Binfiles bin.0 bin.1)
 
+-- a fact under what stands behind `catalogue-` in its key
 abbrev pub fact_with : Option (List ℕ) → List ℕ → Result Head LineKind
 fact_with None value = Err kinds.Key
 fact_with (Some key) value =
@@ -104,13 +112,16 @@ fact_with (Some key) value =
 abbrev pub fact_of : List ℕ → List ℕ → Result Head LineKind
 fact_of word value = fact_with (stripped (codes "catalogue-") word) value
 
+-- what a line with a key of the table says, and else what it says as a fact
 abbrev pub head_by : Option Key → List ℕ → List ℕ → Result Head LineKind
 head_by (Some key) word value = head_of key value
 head_by None word value = fact_of word value
 
+-- what a key and its value say; a value has 65,536 bytes at most
 abbrev pub keyed : List ℕ → List ℕ → Result Head LineKind
 keyed word value = if nat_lt 65536 (length value) then Err kinds.TooLong else head_by (key_of word) word value
 
+-- what a line says, cut at its first space: a line without a space has the empty value
 abbrev pub head_from : List ℕ → Option (List ℕ × List ℕ) → Result Head LineKind
 head_from line None = keyed line []
 head_from line (Some parts) = keyed parts.0 parts.1

@@ -9,6 +9,7 @@ use Rattle.tl_object.specs.declared.head.Head.TheVariants as heads
 use Rattle.tl_object.specs.declared.object.BinFiles.{BinFiles}
 use Rattle.tl_object.specs.declared.builder.Builder.{Builder}
 
+-- what is known of a part's container
 abbrev pub container_of : Builder → Part → Container
 container_of b Run = b.run_box
 container_of b Doc = b.doc_box

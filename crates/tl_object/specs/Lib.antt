@@ -15,3 +15,5 @@ pub mod Steps
 pub mod Plain
 pub mod Copies
 pub mod FilePaths
+pub mod Formed
+pub mod Again

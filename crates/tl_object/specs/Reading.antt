@@ -83,6 +83,7 @@ abbrev pub entry_groups : List (ℕ × List ℕ) → Result (List Group) (ℕ ×
 entry_groups [] = Err (1, kinds.Missing)
 entry_groups (line ∷ rest) = reading [] (line ∷ rest)
 
+-- the entry that groups say, or the fault that came in their place
 abbrev pub as_object : Result (List Group) (ℕ × LineKind) → Result Object (ℕ × LineKind)
 as_object (Ok groups) = Ok (object_of groups)
 as_object (Err fault) = Err fault
@@ -91,6 +92,7 @@ as_object (Err fault) = Err fault
 abbrev pub entry_of : List ℕ → Result Object (ℕ × LineKind)
 entry_of text = as_object (entry_groups (content 0 text))
 
+-- the name of a line with this number, or the fault of that line
 abbrev pub name_at : ℕ → Result (List Group) LineKind → Result (ℕ × List ℕ) (ℕ × LineKind)
 name_at number (Ok groups) = Ok (number, unwrap_or (only name_of groups) [])
 name_at number (Err kind) = Err (number, kind)

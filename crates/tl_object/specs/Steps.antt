@@ -23,6 +23,7 @@ abbrev pub is_file_line : List ℕ → Bool
 is_file_line [] = false
 is_file_line (b ∷ line) = b == 32
 
+-- the files of a section with that of a line; another line is no file
 abbrev pub file_in : Place → List FileEntry → Line → Result (List FileEntry) LineKind
 file_in place files (lines.File file) = placed place files file
 file_in place files (lines.Head head) = Err kinds.File
@@ -42,6 +43,7 @@ IsSection place files before after =
     (groups : List Group) (head : Head) → place_of head ≡ place
     → reading (groups ++ record { head = head; files = [] } ∷ []) before ≡ reading (groups ++ record { head = head; files = files } ∷ []) after
 
+-- what a line says that is no file's, where it isn't known yet
 abbrev pub head_in : Builder → Line → Result Head LineKind
 head_in builder (lines.Head head) = if is_known builder head then Err kinds.Repeated else Ok head
 head_in builder (lines.File file) = Err kinds.File

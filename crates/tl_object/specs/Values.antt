@@ -16,8 +16,8 @@ use Rattle.tl_object.specs.declared.fault.LineKind.TheVariants as kinds
 use Rattle.tl_object.specs.declared.fault.LineFault.{LineFault}
 use Rattle.tl_object.specs.declared.fault.LineFault.TheVariants as faults
 
--- the second step of a reading, where the first gave a value; else the fault of the first
 infixl 10 ◌>>=◌
+-- the second step of a reading, where the first gave a value; else the fault of the first
 abbrev pub ◌>>=◌ : {A B : Type 0} → Result A LineKind → (A → Result B LineKind) → Result B LineKind
 (Ok x) >>= f = f x
 (Err e) >>= f = Err e
@@ -36,12 +36,15 @@ Gives (Err e) reading = Fails e reading
 abbrev pub formed : Bool → List ℕ → LineKind → Result (List ℕ) LineKind
 formed form bytes kind = if form then Ok bytes else Err kind
 
+-- a text of one line
 abbrev pub text_value : List ℕ → Result (List ℕ) LineKind
 text_value value = formed (is_text value) value kinds.Value
 
+-- the name of a package
 abbrev pub name_value : List ℕ → Result (List ℕ) LineKind
 name_value value = formed (is_name value) value kinds.Value
 
+-- a file's path
 abbrev pub path_value : List ℕ → Result (List ℕ) LineKind
 path_value value = formed (is_none (path_fault value)) value kinds.File
 
@@ -50,6 +53,7 @@ abbrev pub number_value : ℕ → List ℕ → Result ℕ LineKind
 number_value limit value =
     if is_decimal value && nat_lt (decimal_value value) limit then Ok (decimal_value value) else Err kinds.Value
 
+-- the category of a word
 abbrev pub category_value : List ℕ → Result Category LineKind
 category_value value =
     if bytes_eq value (codes "Package") then Ok Package
@@ -66,6 +70,7 @@ flag_value value =
     else if bytes_eq value (codes "0") then Ok false
     else Err kinds.Value
 
+-- the bytes of a digest, where its digits read
 abbrev pub or_value : Option (List ℕ) → Result (List ℕ) LineKind
 or_value None = Err kinds.Value
 or_value (Some digest) = Ok digest
@@ -78,6 +83,7 @@ digest_value value = or_value (result_ok (decode_sized value 64))
 abbrev pub stripped : List ℕ → List ℕ → Option (List ℕ)
 stripped word text = if bytes_eq (take (length word) text) word then Some (drop (length word) text) else None
 
+-- the number of blocks behind `size=`
 abbrev pub blocks_after : Option (List ℕ) → Result ℕ LineKind
 blocks_after None = Err kinds.Value
 blocks_after (Some digits) = number_value (2 ^ 64) digits
@@ -93,11 +99,13 @@ platform_with platform sized = do
   blocks ← blocks_value sized
   Ok (name, blocks)
 
+-- the platform and the number of blocks, whichever of the two parts begins with `arch=`
 abbrev pub arch_in_either : Option (List ℕ) → Option (List ℕ) → List ℕ → List ℕ → Result (List ℕ × ℕ) LineKind
 arch_in_either (Some platform) other first second = platform_with platform second
 arch_in_either None (Some platform) first second = platform_with platform first
 arch_in_either None None first second = Err kinds.Value
 
+-- the platform and the number of blocks of a value, cut at its first space
 abbrev pub bin_parts : Option (List ℕ × List ℕ) → Result (List ℕ × ℕ) LineKind
 bin_parts None = Err kinds.Value
 bin_parts (Some parts) =

@@ -16,6 +16,7 @@ use Rattle.tl_object.specs.declared.object.Object.{Object}
 unfoldable pub key_line : List ℕ → List ℕ → List ℕ
 key_line key value = key ++ (32 ∷ value) ++ 10 ∷ []
 
+-- the line of a key and a number
 abbrev pub number_line : List ℕ → ℕ → List ℕ
 number_line key n = key_line key (decimal_text n)
 
@@ -28,6 +29,7 @@ text_line key (Some text) = key_line key text
 abbrev pub text_lines : List ℕ → List (List ℕ) → List ℕ
 text_lines key texts = flat_map (key_line key) texts
 
+-- the word of a category
 abbrev pub category_word : Category → List ℕ
 category_word Package = codes "Package"
 category_word TLCore = codes "TLCore"
@@ -35,6 +37,7 @@ category_word ConTeXt = codes "ConTeXt"
 category_word Collection = codes "Collection"
 category_word Scheme = codes "Scheme"
 
+-- the line of a size, which is left out where none is known
 abbrev pub size_line : List ℕ → Option ℕ → List ℕ
 size_line key None = []
 size_line key (Some size) = number_line key size
@@ -44,9 +47,11 @@ abbrev pub digest_line : List ℕ → Option (List ℕ) → List ℕ
 digest_line key None = []
 digest_line key (Some digest) = key_line key (encode_lower digest)
 
+-- the lines of a container: its size and its SHA-512
 abbrev pub container_lines : List ℕ → List ℕ → Container → List ℕ
 container_lines size_key digest_key container = size_line size_key container.size ++ digest_line digest_key container.digest
 
+-- the line of a file without marks
 unfoldable pub path_line : List ℕ → List ℕ
 path_line path = (32 ∷ path) ++ 10 ∷ []
 
@@ -55,6 +60,7 @@ abbrev pub mark_text : List ℕ → Option (List ℕ) → List ℕ
 mark_text word None = []
 mark_text word (Some text) = (32 ∷ word) ++ text ++ 34 ∷ []
 
+-- the line of a file with its marks: the details come before the language
 unfoldable pub file_line : FileEntry → List ℕ
 file_line file =
     (32 ∷ file.path) ++ mark_text (codes "details=\"") file.details ++ mark_text (codes "language=\"") file.language ++ 10 ∷ []
@@ -68,6 +74,7 @@ abbrev pub files_lines : List ℕ → Files → List ℕ
 files_lines key files =
     if files.blocks == 0 && length files.paths == 0 then [] else section_line key files.blocks ++ flat_map path_line files.paths
 
+-- the lines of the documentation, which is written where it has files or blocks
 abbrev pub doc_lines : DocFiles → List ℕ
 doc_lines doc =
     if doc.blocks == 0 && length doc.files == 0 then [] else section_line (codes "docfiles") doc.blocks ++ flat_map file_line doc.files
@@ -76,12 +83,15 @@ doc_lines doc =
 unfoldable pub bin_line : List ℕ → ℕ → List ℕ
 bin_line platform blocks = codes "binfiles arch=" ++ section_line platform blocks
 
+-- the lines of a section of binaries
 abbrev pub bin_lines : BinFiles → List ℕ
 bin_lines bin = bin_line bin.platform bin.blocks ++ flat_map path_line bin.paths
 
+-- the line of a fact
 unfoldable pub fact_line : FactEntry → List ℕ
 fact_line fact = codes "catalogue-" ++ fact.key ++ (32 ∷ fact.value) ++ 10 ∷ []
 
+-- a relocated entry is told so, and another one has no line
 unfoldable pub relocated_line : Bool → List ℕ
 relocated_line false = []
 relocated_line true = codes "relocated 1\n"

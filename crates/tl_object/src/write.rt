@@ -1,12 +1,17 @@
 //! The writing of an entry.
-ghost use Rattle.std.specs.Prelude.{◌≡◌, ◌==◌, ◌++◌, ◌∷◌, [], not, true, OnOk, IfOk, codes};
+ghost use Rattle.std.specs.Prelude.{◌≡◌, ◌^◌, ◌<◌, ◌==◌, ◌++◌, ◌∷◌, [], not, true, Ok, All, OnOk, IfOk, codes};
 ghost use Rattle.std.specs.List.{flat_map, list_all};
 ghost use Rattle.tl_model.specs.Decimal.{decimal_text};
 ghost use Rattle.tl_model.specs.Lines.{IsLine};
 ghost use Rattle.tl_model.specs.Acks.{IsPlain};
 ghost use Rattle.hex.specs.Hex.{encode_lower};
+ghost use Rattle.tl_text.specs.Texts.{IsText};
+ghost use Rattle.tl_path.specs.Path.{IsPath};
 ghost use Rattle.tl_object.specs.Forms.{is_platform};
 ghost use Rattle.tl_object.specs.Plain.{is_key};
+ghost use Rattle.tl_object.specs.Formed.{IsFormedText, IsFormedSize, IsDigest, IsFormedDigest, IsFormedBox, IsFormedFile, IsFormedDoc, IsFormedSection, IsFormedBin, IsFormedFact, HasFormedFront, HasFormedTexts, HasFormedFiles};
+ghost use Rattle.tl_object.specs.Again.{ReadsAgain};
+ghost use Rattle.tl_object.specs.Reading.{entry_of};
 ghost use Rattle.tl_object.specs.Writing.{key_line, number_line, text_line, text_lines, category_word, size_line, digest_line, container_lines, path_line, mark_text, file_line, section_line, files_lines, doc_lines, bin_line, bin_lines, relocated_line, fact_line, first_lines, middle_lines, file_lines, object_text};
 
 use crate::object::{BinFiles, Container, DocFile, DocFiles, Fact, Files, Object};
@@ -56,6 +61,7 @@ fn put_text(out: &mut Vec<u8>, key: &[u8], text: &Option<Text>) -> Result<(), Al
     requires { is_key key.now ≡ true }
     ensures written { OnOk result (out.new.items ≡ out.old.items ++ text_line key.now text.now) }
     ensures plain { OnOk result (IsPlain out.old.items → IsPlain out.new.items) }
+    ensures formed { OnOk result (IsFormedText text.now) }
 {
     match text {
         Some(text) => put_line(out, key, text.bytes()),
@@ -67,6 +73,7 @@ fn put_texts(out: &mut Vec<u8>, key: &[u8], texts: &[Text]) -> Result<(), AllocE
     requires { is_key key.now ≡ true }
     ensures written { OnOk result (out.new.items ≡ out.old.items ++ text_lines key.now texts.now) }
     ensures plain { OnOk result (IsPlain out.old.items → IsPlain out.new.items) }
+    ensures formed { OnOk result (All IsText texts.now) }
 {
     for text in texts {
         put_line(out, key, text.bytes())?;
@@ -90,6 +97,7 @@ fn put_size(out: &mut Vec<u8>, key: &[u8], size: Option<u64>) -> Result<(), Allo
     requires { is_key key.now ≡ true }
     ensures written { OnOk result (out.new.items ≡ out.old.items ++ size_line key.now size) }
     ensures plain { OnOk result (IsPlain out.old.items → IsPlain out.new.items) }
+    ensures formed { IsFormedSize size }
 {
     match size {
         Some(size) => put_number(out, key, size),
@@ -101,6 +109,7 @@ fn put_digits(out: &mut Vec<u8>, key: &[u8], digest: [u8; 64]) -> Result<(), All
     requires { is_key key.now ≡ true }
     ensures written { OnOk result (out.new.items ≡ out.old.items ++ key_line key.now (encode_lower digest)) }
     ensures plain { OnOk result (IsPlain out.old.items → IsPlain out.new.items) }
+    ensures formed { IsDigest digest }
 {
     let mut digits = [0u8; 128];
     match encode_to_slice(digest.as_slice(), &mut digits) {
@@ -113,6 +122,7 @@ fn put_digest(out: &mut Vec<u8>, key: &[u8], digest: &Option<[u8; 64]>) -> Resul
     requires { is_key key.now ≡ true }
     ensures written { OnOk result (out.new.items ≡ out.old.items ++ digest_line key.now digest.now) }
     ensures plain { OnOk result (IsPlain out.old.items → IsPlain out.new.items) }
+    ensures formed { OnOk result (IsFormedDigest digest.now) }
 {
     match digest {
         Some(digest) => put_digits(out, key, *digest),
@@ -130,6 +140,7 @@ fn put_container(
     requires digest { is_key digest_key.now ≡ true }
     ensures written { OnOk result (out.new.items ≡ out.old.items ++ container_lines size_key.now digest_key.now container.now) }
     ensures plain { OnOk result (IsPlain out.old.items → IsPlain out.new.items) }
+    ensures formed { OnOk result (IsFormedBox container.now) }
 {
     put_size(out, size_key, container.size)?;
     put_digest(out, digest_key, &container.digest)
@@ -139,6 +150,7 @@ fn put_container(
 fn put_path(out: &mut Vec<u8>, path: &Path) -> Result<(), AllocError>
     ensures written { OnOk result (out.new.items ≡ out.old.items ++ path_line path.now) }
     ensures plain { OnOk result (IsPlain (path_line path.now)) }
+    ensures formed { OnOk result (IsPath path.now) }
 {
     out.push(b' ')?;
     out.extend_from_slice(path.bytes())?;
@@ -149,6 +161,7 @@ fn put_path(out: &mut Vec<u8>, path: &Path) -> Result<(), AllocError>
 fn put_paths(out: &mut Vec<u8>, paths: &[Path]) -> Result<(), AllocError>
     ensures written { OnOk result (out.new.items ≡ out.old.items ++ flat_map path_line paths.now) }
     ensures plain { OnOk result (IsPlain out.old.items → IsPlain out.new.items) }
+    ensures formed { OnOk result (All IsPath paths.now) }
 {
     for path in paths {
         put_path(out, path)?;
@@ -160,6 +173,7 @@ fn put_mark(out: &mut Vec<u8>, word: &[u8], mark: &Option<Text>) -> Result<(), A
     requires { list_all (λ b. not (b == 10)) word.now ≡ true }
     ensures written { OnOk result (out.new.items ≡ out.old.items ++ mark_text word.now mark.now) }
     ensures line { OnOk result (IsLine (mark_text word.now mark.now)) }
+    ensures formed { OnOk result (IsFormedText mark.now) }
 {
     if let Some(text) = mark {
         out.push(b' ')?;
@@ -174,6 +188,7 @@ fn put_mark(out: &mut Vec<u8>, word: &[u8], mark: &Option<Text>) -> Result<(), A
 fn put_file(out: &mut Vec<u8>, file: &DocFile) -> Result<(), AllocError>
     ensures written { OnOk result (out.new.items ≡ out.old.items ++ file_line file.now) }
     ensures plain { OnOk result (IsPlain (file_line file.now)) }
+    ensures formed { OnOk result (IsFormedFile file.now) }
 {
     out.push(b' ')?;
     out.extend_from_slice(file.path.bytes())?;
@@ -186,6 +201,7 @@ fn put_file(out: &mut Vec<u8>, file: &DocFile) -> Result<(), AllocError>
 fn put_doc_files(out: &mut Vec<u8>, files: &[DocFile]) -> Result<(), AllocError>
     ensures written { OnOk result (out.new.items ≡ out.old.items ++ flat_map file_line files.now) }
     ensures plain { OnOk result (IsPlain out.old.items → IsPlain out.new.items) }
+    ensures formed { OnOk result (All IsFormedFile files.now) }
 {
     for file in files {
         put_file(out, file)?;
@@ -209,6 +225,7 @@ fn put_files(out: &mut Vec<u8>, key: &[u8], files: &Files) -> Result<(), AllocEr
     requires { is_key key.now ≡ true }
     ensures written { OnOk result (out.new.items ≡ out.old.items ++ files_lines key.now files.now) }
     ensures plain { OnOk result (IsPlain out.old.items → IsPlain out.new.items) }
+    ensures formed { OnOk result (IsFormedSection files.now) }
 {
     let paths = files.paths.as_slice();
     if files.blocks == 0 && paths.is_empty() {
@@ -221,6 +238,7 @@ fn put_files(out: &mut Vec<u8>, key: &[u8], files: &Files) -> Result<(), AllocEr
 fn put_doc(out: &mut Vec<u8>, doc: &DocFiles) -> Result<(), AllocError>
     ensures written { OnOk result (out.new.items ≡ out.old.items ++ doc_lines doc.now) }
     ensures plain { OnOk result (IsPlain out.old.items → IsPlain out.new.items) }
+    ensures formed { OnOk result (IsFormedDoc doc.now) }
 {
     let files = doc.files.as_slice();
     if doc.blocks == 0 && files.is_empty() {
@@ -254,6 +272,7 @@ fn put_bin_line(out: &mut Vec<u8>, platform: &[u8], blocks: u64) -> Result<(), A
 fn put_bin(out: &mut Vec<u8>, bin: &BinFiles) -> Result<(), AllocError>
     ensures written { OnOk result (out.new.items ≡ out.old.items ++ bin_lines bin.now) }
     ensures plain { OnOk result (IsPlain out.old.items → IsPlain out.new.items) }
+    ensures formed { OnOk result (IsFormedBin bin.now) }
 {
     put_bin_line(out, bin.platform.bytes(), bin.blocks)?;
     put_paths(out, bin.paths.as_slice())
@@ -262,6 +281,7 @@ fn put_bin(out: &mut Vec<u8>, bin: &BinFiles) -> Result<(), AllocError>
 fn put_bins(out: &mut Vec<u8>, bins: &[BinFiles]) -> Result<(), AllocError>
     ensures written { OnOk result (out.new.items ≡ out.old.items ++ flat_map bin_lines bins.now) }
     ensures plain { OnOk result (IsPlain out.old.items → IsPlain out.new.items) }
+    ensures formed { OnOk result (All IsFormedBin bins.now) }
 {
     for bin in bins {
         put_bin(out, bin)?;
@@ -273,6 +293,7 @@ fn put_bins(out: &mut Vec<u8>, bins: &[BinFiles]) -> Result<(), AllocError>
 fn put_fact(out: &mut Vec<u8>, fact: &Fact) -> Result<(), AllocError>
     ensures written { OnOk result (out.new.items ≡ out.old.items ++ fact_line fact.now) }
     ensures plain { OnOk result (IsPlain (fact_line fact.now)) }
+    ensures formed { OnOk result (IsFormedFact fact.now) }
 {
     out.extend_from_slice(b"catalogue-")?;
     put_words(out, fact.key.bytes(), fact.value.bytes())
@@ -281,6 +302,7 @@ fn put_fact(out: &mut Vec<u8>, fact: &Fact) -> Result<(), AllocError>
 fn put_facts(out: &mut Vec<u8>, facts: &[Fact]) -> Result<(), AllocError>
     ensures written { OnOk result (out.new.items ≡ out.old.items ++ flat_map fact_line facts.now) }
     ensures plain { OnOk result (IsPlain out.old.items → IsPlain out.new.items) }
+    ensures formed { OnOk result (All IsFormedFact facts.now) }
 {
     for fact in facts {
         put_fact(out, fact)?;
@@ -299,14 +321,23 @@ fn put_relocated(out: &mut Vec<u8>, relocated: bool) -> Result<(), AllocError>
     Ok(())
 }
 
+fn put_revision(out: &mut Vec<u8>, revision: u32) -> Result<(), AllocError>
+    ensures written { OnOk result (out.new.items ≡ out.old.items ++ number_line (codes "revision") revision) }
+    ensures plain { OnOk result (IsPlain out.old.items → IsPlain out.new.items) }
+    ensures formed { revision < 2 ^ 32 }
+{
+    put_number(out, b"revision", u64::from(revision))
+}
+
 #[tactic(auto, unfolding(crate::specs::Writing::first_lines))]
 fn put_first(out: &mut Vec<u8>, object: &Object) -> Result<(), AllocError>
     ensures written { OnOk result (out.new.items ≡ out.old.items ++ first_lines object.now) }
     ensures plain { OnOk result (IsPlain out.old.items → IsPlain out.new.items) }
+    ensures formed { OnOk result (HasFormedFront object.now) }
 {
     put_line(out, b"name", object.name.bytes())?;
     put_line(out, b"category", category_word(object.category))?;
-    put_number(out, b"revision", u64::from(object.revision))?;
+    put_revision(out, object.revision)?;
     put_text(out, b"catalogue", &object.catalogue)?;
     put_text(out, b"shortdesc", &object.shortdesc)?;
     put_relocated(out, object.relocated)
@@ -316,6 +347,7 @@ fn put_first(out: &mut Vec<u8>, object: &Object) -> Result<(), AllocError>
 fn put_middle(out: &mut Vec<u8>, object: &Object) -> Result<(), AllocError>
     ensures written { OnOk result (out.new.items ≡ out.old.items ++ middle_lines object.now) }
     ensures plain { OnOk result (IsPlain out.old.items → IsPlain out.new.items) }
+    ensures formed { OnOk result (HasFormedTexts object.now) }
 {
     put_texts(out, b"longdesc", object.longdesc.as_slice())?;
     put_texts(out, b"depend", object.depends.as_slice())?;
@@ -326,6 +358,7 @@ fn put_middle(out: &mut Vec<u8>, object: &Object) -> Result<(), AllocError>
 fn put_all_files(out: &mut Vec<u8>, object: &Object) -> Result<(), AllocError>
     ensures written { OnOk result (out.new.items ≡ out.old.items ++ file_lines object.now) }
     ensures plain { OnOk result (IsPlain out.old.items → IsPlain out.new.items) }
+    ensures formed { OnOk result (HasFormedFiles object.now) }
 {
     put_container(out, b"containersize", b"containerchecksum", &object.run_box)?;
     put_container(
@@ -346,10 +379,12 @@ fn put_all_files(out: &mut Vec<u8>, object: &Object) -> Result<(), AllocError>
     put_bins(out, object.bin.as_slice())
 }
 
-/// Writes the text of an entry behind what was written before.
+/// Writes the text of an entry behind what was written before. The text reads as the entry again, whatever stands before and
+/// behind it.
 pub fn append_object(out: &mut Vec<u8>, object: &Object) -> Result<(), AllocError>
     ensures written { OnOk result (out.new.items ≡ out.old.items ++ object_text object.now) }
     ensures plain { OnOk result (IsPlain out.old.items → IsPlain out.new.items) }
+    ensures again { OnOk result (ReadsAgain object.now) }
 {
     put_first(out, object)?;
     put_middle(out, object)?;
@@ -357,10 +392,11 @@ pub fn append_object(out: &mut Vec<u8>, object: &Object) -> Result<(), AllocErro
     put_facts(out, object.catalogue_facts.as_slice())
 }
 
-/// The text of an entry, each line with its end.
+/// The text of an entry, each line with its end. It reads as the entry again.
 pub fn write_object(alloc: Global, object: &Object) -> Result<Vec<u8>, AllocError>
     ensures text { IfOk result (λ text. text.items ≡ object_text object.now) }
     ensures plain { IfOk result (λ text. IsPlain text.items) }
+    ensures reads { IfOk result (λ text. entry_of text.items ≡ Ok object.now) }
 {
     let mut out = Vec::new(alloc);
     append_object(&mut out, object)?;

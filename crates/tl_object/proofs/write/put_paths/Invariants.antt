@@ -1,6 +1,8 @@
 use Rattle.std.proofs.Common.{◌≡◌, ◌++◌, take}
+use Rattle.std.specs.Prelude.{All}
 use Rattle.std.specs.List.{flat_map}
 use Rattle.tl_model.specs.Acks.{IsPlain}
+use Rattle.tl_path.specs.Path.{IsPath}
 use Rattle.tl_object.specs.Writing.{path_line}
 use Rattle.tl_object.proofs.write.put_paths.Given as goal
 
@@ -8,4 +10,5 @@ abbrev pub invariant-loop-path : goal.invariant-loop-path
 invariant-loop-path l = record {
   written : l.out.items ≡ l.fn.out.items ++ flat_map path_line (take l.path-index l.paths);
   plain : IsPlain l.fn.out.items → IsPlain l.out.items;
+  formed : All IsPath (take l.path-index l.paths);
 }
