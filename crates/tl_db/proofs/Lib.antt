@@ -3,3 +3,5 @@ pub mod FindLemmas
 pub mod OptionLemmas
 pub mod PlatformLemmas
 pub mod LineLemmas
+pub mod SpelledLemmas
+pub mod SettingLemmas
