@@ -148,7 +148,8 @@ module _ {A : Type 0} (key : A → List ℕ) where
       ap (λ (zs : List A). y ∷ zs) (set_at x ys i d (tail_rising y ys up) (omega arith) is)
       ∙ sym (ap (insert_by key x) kept ∙ ap (λ t. cond t (x ∷ y ∷ filter (is_other (key x)) ys) (y ∷ insert_by key x (filter (is_other (key x)) ys))) (before_not (key y) (key x) less))
 
-  filter_gone : (wanted : List ℕ) (xs : List A) → has_key key wanted (filter (is_other wanted) xs) ≡ false
+  -- no element that is left has the key
+  pub filter_gone : (wanted : List ℕ) (xs : List A) → has_key key wanted (filter (is_other wanted) xs) ≡ false
   filter_gone wanted [] = refl
   filter_gone wanted (x ∷ xs) = kept_gone (same_name (key x) wanted) refl (filter_gone wanted xs)
     where

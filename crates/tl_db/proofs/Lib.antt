@@ -4,3 +4,5 @@ pub mod OptionLemmas
 pub mod PlatformLemmas
 pub mod LineLemmas
 pub mod AgainLemmas
+pub mod SpelledLemmas
+pub mod SettingLemmas

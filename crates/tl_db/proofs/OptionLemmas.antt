@@ -26,18 +26,18 @@ use Rattle.tl_db.specs.Options.{option_prefix, option_default, are_distinct, are
 abbrev own : List ℕ → List ℕ
 own text = text
 
-left : (a b : Bool) → (a && b) ≡ true → a ≡ true
+pub left : (a b : Bool) → (a && b) ≡ true → a ≡ true
 left true b h = refl
 left false b h = absurd (true≢false (sym h))
 
-right : (a b : Bool) → (a && b) ≡ true → b ≡ true
+pub right : (a b : Bool) → (a && b) ≡ true → b ≡ true
 right true b h = h
 right false b h = absurd (true≢false (sym h))
 
-both : (a b : Bool) → a ≡ true → b ≡ true → (a && b) ≡ true
+pub both : (a b : Bool) → a ≡ true → b ≡ true → (a && b) ≡ true
 both a b p q = ap (λ t. t && b) p ∙ q
 
-from_if : {A : Type 0} (c : Bool) (x v : A) → cond c (Some x) None ≡ Some v → (c ≡ true) × (x ≡ v)
+pub from_if : {A : Type 0} (c : Bool) (x v : A) → cond c (Some x) None ≡ Some v → (c ≡ true) × (x ≡ v)
 from_if true x v is = (refl, ap (λ (o : Option _). unwrap_or o x) is)
 from_if false x v is = absurd (cc)
 
@@ -78,11 +78,16 @@ pub text_from_plain : (text : List ℕ) → list_all is_plain text ≡ true → 
 text_from_plain text all short =
     IsText-from text (IsUtf8-from_ascii text (ascii text all)) (all_weaker is_plain (λ b. not (b == 10)) (λ b is. ap not (plain_apart b is)) text all) short
 
+pub platform_bytes : (word : List ℕ) → is_platform word ≡ true → list_all is_of_platform word ≡ true
+platform_bytes word is =
+    let some = nat_le 1 (length word) in let short = nat_le (length word) 32 in let first = is_lower_or_digit (get_or word 0 0) in let all = list_all is_of_platform word in
+    right first all (right short (first && all) (right some (short && (first && all)) is))
+
 platform_parts : (word : List ℕ) → is_platform word ≡ true → IsPlainText 32 word
 platform_parts word is =
     let some = nat_le 1 (length word) in let short = nat_le (length word) 32 in let first = is_lower_or_digit (get_or word 0 0) in let all = list_all is_of_platform word in
     record {
-      plain = all_weaker is_of_platform is_plain plain_of_platform word (right first all (right short (first && all) (right some (short && (first && all)) is)));
+      plain = all_weaker is_of_platform is_plain plain_of_platform word (platform_bytes word is);
       short = leb-true (length word) 32 (left short (first && all) (right some (short && (first && all)) is));
     }
 
@@ -115,7 +120,7 @@ length-insert_by x (y ∷ ys) = elim (cases_Bool (comes_before x y)) [
 ]
 
 -- texts in order are of the same form and no more than they were
-all-rising_of : (p : List ℕ → Bool) (xs : List (List ℕ)) → list_all p xs ≡ true → list_all p (rising_of xs) ≡ true
+pub all-rising_of : (p : List ℕ → Bool) (xs : List (List ℕ)) → list_all p xs ≡ true → list_all p (rising_of xs) ≡ true
 all-rising_of p [] all = refl
 all-rising_of p (x ∷ xs) all =
     elim (cases_Bool (has_key own x (rising_of xs))) [
@@ -124,7 +129,7 @@ all-rising_of p (x ∷ xs) all =
           ∙ all-insert p x (rising_of xs) (left (p x) _ all) (all-rising_of p xs (right (p x) _ all))
     ]
 
-length-rising_of : (xs : List (List ℕ)) → length (rising_of xs) ≤ length xs
+pub length-rising_of : (xs : List (List ℕ)) → length (rising_of xs) ≤ length xs
 length-rising_of [] = omega arith
 length-rising_of (x ∷ xs) =
     elim (cases_Bool (has_key own x (rising_of xs))) [

@@ -153,6 +153,10 @@ with_made (Err fault) objects = Err fault
 abbrev pub with_option : List ℕ → List ℕ → List Object → Result (List Object) OptionError
 with_option name value objects = with_made (entry_with name value objects) objects
 
+-- the one spelling of a value of the option that has this name
+abbrev pub spelling_of : List ℕ → List ℕ → Option (List ℕ)
+spelling_of name value = option_and_then (λ option. spelled option value) (option_named name)
+
 -- an error that was answered is that of the definition; want of memory says nothing
 abbrev pub IsOptionFault : {A : Type 0} → Result A OptionError → OptionError → Type 0
 IsOptionFault wanted UnknownOption = wanted ≡ Err UnknownOption

@@ -1,12 +1,12 @@
 //! The entry `00texlive.installation`, which keeps the options of a tree.
-ghost use Rattle.std.specs.Prelude.{◌≡◌, ◌<◌, ◌≤◌, ◌^◌, ◌++◌, ◌∷◌, [], List, ℕ, true, Some, Ok, IfOk, IfErr, IfSome, OnOk, OnErr, MatchOption, length, option_copied, unwrap_or};
+ghost use Rattle.std.specs.Prelude.{◌≡◌, ◌≢◌, ◌<◌, ◌≤◌, ◌^◌, ◌++◌, ◌∷◌, [], List, ℕ, true, Some, Ok, IfOk, IfErr, IfSome, OnOk, OnErr, MatchOption, length, option_copied, unwrap_or};
 ghost use Rattle.std.specs.Prelude.{slice_set};
 ghost use Rattle.tl_model.specs.Lines.{IsLine};
 ghost use Rattle.tl_text.specs.Texts.{is_text};
 ghost use Rattle.tl_object.specs.Values.{stripped};
 ghost use Rattle.tl_object.specs.Groups.{no_files, no_doc_files};
 ghost use Rattle.tl_db.specs.Entries.{entry_of};
-ghost use Rattle.tl_db.specs.Options.{option_prefix, installation, first_after, kept_value, option_value, option_of, with_line, no_options, entry_with, with_option, IsOptionFault, IsUnknown};
+ghost use Rattle.tl_db.specs.Options.{option_prefix, installation, first_after, kept_value, option_value, option_of, with_line, no_options, entry_with, with_option, spelling_of, IsOptionFault, IsUnknown};
 
 use crate::db::Db;
 use crate::options::{OptionError, TreeOption, spelled};
@@ -219,7 +219,8 @@ impl Db {
         Ok(keeping(alloc, entry, option, line)?)
     }
 
-    /// Sets an option: puts the entry of `option_entry` among the entries. `UnknownOption` where no option has this name,
+    /// Sets an option: puts the entry of `option_entry` among the entries. The option then has the value in its one
+    /// spelling, and every other option what it had. `UnknownOption` where no option has this name,
     /// else `BadValue` where the value isn't in the option's form. On an error nothing changes.
     pub fn set_option(
         &mut self,
@@ -229,6 +230,8 @@ impl Db {
     ) -> Result<(), OptionError>
         requires { length value.now < 2 ^ 32 }
         ensures set { OnOk result (with_option option.now value.now self.old ≡ Ok self.new) }
+        ensures kept { OnOk result (option_of option.now self.new ≡ spelling_of option.now value.now) }
+        ensures others { OnOk result ((other : List ℕ) → other ≢ option.now → option_of other self.new ≡ option_of other self.old) }
         ensures fault { IfErr result (IsOptionFault (entry_with option.now value.now self.old)) }
         ensures unchanged { OnErr result (self.new ≡ self.old) }
     {

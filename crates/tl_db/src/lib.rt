@@ -4,6 +4,10 @@
 mod db;
 mod fault;
 mod installation;
+#[cfg(test)]
+mod limit_tests;
+#[cfg(test)]
+mod option_tests;
 mod options;
 mod read;
 mod repo;

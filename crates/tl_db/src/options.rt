@@ -54,7 +54,8 @@ impl TreeOption {
 
     /// The option's name. Takes no memory.
     pub fn name(self) -> &'static str
-        ensures { result.now ≡ option_name self }
+        ensures name { result.now ≡ option_name self }
+        ensures named { option_named result.now ≡ Some self }
     {
         match self {
             TreeOption::Autobackup => "autobackup",
