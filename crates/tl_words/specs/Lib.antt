@@ -10,3 +10,4 @@ pub mod Inside
 pub mod Errors
 pub mod Lines
 pub mod Places
+pub mod Usage

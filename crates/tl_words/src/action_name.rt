@@ -1,5 +1,6 @@
 // The actions that the program knows: how each is written, its options and its operands.
 ghost use Rattle.std.specs.Prelude.{◌≡◌, bytes_eq, find};
+ghost use Rattle.tl_words.specs.Usage.{operands_text, effect_text};
 ghost use Rattle.tl_words.specs.Table.{action_text, action_named_among, is_own, goes_with, needs_local, names_expected, operands_of, is_served};
 
 use crate::operands::Expected;
@@ -73,7 +74,8 @@ impl ActionName {
             .find(|action| action.text().as_bytes() == word)
     }
 
-    fn is_own(self, option: OptionName) -> bool
+    // Whether the option goes with this action and not with every one.
+    pub(crate) fn is_own(self, option: OptionName) -> bool
         ensures { result ≡ is_own self option }
     {
         match self {
@@ -122,7 +124,9 @@ impl ActionName {
     }
 
     // Its operands in a usage text, each with a blank before it.
-    pub(crate) fn operands_text(self) -> &'static str {
+    pub(crate) fn operands_text(self) -> &'static str
+        ensures { result.now ≡ operands_text self }
+    {
         match self {
             ActionName::Info => " [NAME]",
             ActionName::Search => " WORD",
@@ -140,18 +144,21 @@ impl ActionName {
     }
 
     // What it does, in a line.
-    pub(crate) fn effect(self) -> &'static str {
+    pub(crate) fn effect_text(self) -> &'static str
+        ensures { result.now ≡ effect_text self }
+    {
         match self {
             ActionName::DumpTlpdb => "Says the text of the local database.",
-            ActionName::Info => "Says what is known of a package, or of all.",
-            ActionName::Search => "Says the packages whose name or description has a word.",
+            ActionName::Info => "Says what is known of a package, or which packages there are.",
+            ActionName::Search =>
+                "Says the packages that have a word in their name or description.",
             ActionName::Candidates => "Says which repositories have a package.",
             ActionName::Check => "Says what is wrong in the tree.",
             ActionName::Install => "Installs packages.",
             ActionName::Update => "Updates packages.",
             ActionName::Remove => "Removes packages.",
             ActionName::Backup => "Backs packages up.",
-            ActionName::Restore => "Says the backups, or brings one back.",
+            ActionName::Restore => "Says which backups there are, or brings one back.",
             ActionName::Setting => "Says the options of the tree, or sets one.",
             ActionName::Pinning => "Says or changes the pins.",
             ActionName::Expand => "Says the objects of a source.",

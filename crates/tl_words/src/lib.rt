@@ -26,4 +26,6 @@ pub use read::{read_shell_words, read_words};
 pub use tl_path::Check;
 
 #[cfg(test)]
+mod fault_tests;
+#[cfg(test)]
 mod tests;

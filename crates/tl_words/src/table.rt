@@ -2,6 +2,7 @@
 ghost use Rattle.std.specs.Prelude.{◌≡◌, bytes_eq, find};
 ghost use Rattle.tl_words.specs.Table.{option_text, takes_value, option_named, is_common, is_same_option};
 ghost use Rattle.tl_words.specs.Table.{is_dump_option, is_install_option, is_update_option, is_remove_option, is_all_option};
+ghost use Rattle.tl_words.specs.Usage.{value_text};
 ghost use Rattle.tl_words.specs.Faults.{is_unfit_for_users, is_for_users};
 
 /// The options.
@@ -69,6 +70,18 @@ impl OptionName {
         match self {
             OptionName::Repository | OptionName::Workers | OptionName::Usertree => true,
             _ => false,
+        }
+    }
+
+    // What stands for its value in a usage text.
+    pub(crate) fn value_text(self) -> &'static str
+        ensures { result.now ≡ value_text self }
+    {
+        match self {
+            OptionName::Repository => "=[TAG=]DIR",
+            OptionName::Workers => "=N",
+            OptionName::Usertree => "=DIR",
+            _ => "",
         }
     }
 
