@@ -5,6 +5,15 @@ use Rattle.tl_words.specs.Faults.{size_fault}
 use Rattle.std.specs.declared.alloc.Global.{Global}
 use Rattle.tl_words.specs.Inside.{texts}
 
+item_from : {A : Type 0} (xs : List A) (i : ℕ) (v : A) → i < length xs → v ≡ get_or xs i v → drop i xs ≡ v ∷ drop (suc i) xs
+item_from [] i v h is = absurd (omega arith)
+item_from (x ∷ xs) zero v h is = ap (λ y. y ∷ xs) (sym is)
+item_from (x ∷ xs) (suc i) v h is = item_from xs i v (omega arith) is
+
+-- the list from a place on
+pub drop_item : {A : Type 0} (xs : List A) (i : ℕ) (v : A) → i < length xs → v ≡ get_or xs i v → drop i xs ≡ v ∷ drop (i + 1) xs
+drop_item xs i v h is = rw add-one (item_from xs i v h is)
+
 from_place : (words : List (Vec ℕ Global)) (i : ℕ) (v : Vec ℕ Global) → i < length words → v ≡ get_or words i v → drop i (texts words) ≡ v.items ∷ drop (suc i) (texts words)
 from_place [] i v h is = absurd (omega arith)
 from_place (w ∷ ws) zero v h is = ap (λ (x : Vec ℕ Global). x.items ∷ texts ws) (sym is)

@@ -1,2 +1,3 @@
 pub mod Drops
-pub mod Actions
+pub mod Named
+pub mod Built

@@ -1,8 +1,13 @@
 pub mod Table
 pub mod Parts
+pub mod Order
+pub mod Operands
+pub mod Settings
 pub mod Faults
 pub mod Commands
+pub mod Texts
 pub mod Inside
 pub mod Errors
 pub mod Lines
 pub mod Places
+pub mod Usage
