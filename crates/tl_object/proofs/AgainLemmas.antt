@@ -167,7 +167,7 @@ unfolding file_line
 files_text [] = refl
 files_text (file ∷ files) = append_assoc (file_text file) (10 ∷ []) (flat_map file_line files) ∙ ap (λ (t : List ℕ). file_text file ++ 10 ∷ t) (files_text files)
 
--- a line that no file's is, and the lines of its files
+-- a line that is no file's, with the lines of the files that belong to it
 pub leads-section : (line : List ℕ) (head : Head) (files : List FileEntry) (builder : Builder) → IsHead line head → is_known builder head ≡ false → All IsFormedFile files
     → is_rising (λ (f : FileEntry). f.path) files ≡ true → AllByRecursion (Allowed (place_of head)) files → Leads (line ++ 10 ∷ flat_map file_line files) builder (put builder head files)
 leads-section line head files builder is new each up allowed = record {
@@ -183,7 +183,7 @@ leads-section line head files builder is new each up allowed = record {
   };
 }
 
--- a line that no file's is
+-- a line that is no file's
 pub leads-line : (line : List ℕ) (head : Head) (builder : Builder) → IsHead line head → is_known builder head ≡ false → Leads (line ++ 10 ∷ []) builder (put builder head [])
 leads-line line head builder is new = leads-section line head [] builder is new (All-nil IsFormedFile) refl tt
 

@@ -1,5 +1,5 @@
 -- The text of each part of an entry, read again.
-use Rattle.std.proofs.Common.{◌≡◌, ℕ, ◌==◌, ◌^◌, ◌<◌, Bool, true, false, cond, not, ◌&&◌, List, [], ◌∷◌, ◌++◌, length, map, Option, Some, None, refl, sym, ◌∙◌, ap, subst, append_assoc}
+use Rattle.std.proofs.Common.{◌≡◌, ℕ, ◌==◌, ◌^◌, ◌<◌, Bool, true, false, cond, ◌&&◌, List, [], ◌∷◌, ◌++◌, length, map, Option, Some, None, refl, sym, ◌∙◌, ap, subst, append_assoc}
 use Rattle.std.specs.Prelude.{All, is_some, codes}
 use Rattle.std.specs.List.{AllByRecursion, flat_map}
 use Rattle.std.proofs.lemmas.List.{append-nil}
@@ -233,10 +233,6 @@ leads-paths line head paths b is new plain each up =
 section_text : (key : List ℕ) (blocks : ℕ) → section_line key blocks ≡ (key ++ 32 ∷ sized blocks) ++ 10 ∷ []
 unfolding section_line
 section_text key blocks = ap (λ (t : List ℕ). t ++ 10 ∷ []) (append_assoc key (codes " size=") (decimal_text blocks))
-
--- whether a section is written
-abbrev pub is_kept : Files → Bool
-is_kept files = not (files.blocks == 0 && length files.paths == 0)
 
 -- what is kept of a section that is left out where it is empty
 abbrev pub told_files : Files → Option Files

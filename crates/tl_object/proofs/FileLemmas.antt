@@ -6,7 +6,7 @@ use Rattle.std.specs.Option.{option_and_then}
 use Rattle.std.specs.Str.{IsUtf8, bytes_eq}
 use Rattle.std.proofs.lemmas.List.{append-nil}
 use Rattle.std.proofs.lemmas.List.Elements.{All-head, All-tail, All-nil}
-use Rattle.std.proofs.lemmas.Str.{IsUtf8-append, IsUtf8-from_ascii, IsUtf8-nil, is_utf8-from_IsUtf8}
+use Rattle.std.proofs.lemmas.Str.{IsUtf8-append, IsUtf8-nil, is_utf8-from_IsUtf8}
 use Rattle.std.proofs.lemmas.Bool.Decides.{nat_tests}
 use Rattle.tl_model.specs.Lines.{IsLine}
 use Rattle.tl_text.specs.Texts.{IsText, IsUtf8-from_text, IsLine-from_text}
@@ -25,12 +25,9 @@ use Rattle.tl_object.specs.declared.fault.LineKind.{LineKind}
 use Rattle.tl_object.specs.declared.fault.LineKind.TheVariants as kinds
 use Rattle.tl_object.specs.declared.head.Line.TheVariants as lines
 use Rattle.tl_object.proofs.PlainLemmas.{line_append, line_spaced, line_of_path, unbarred, line_tested}
-use Rattle.tl_object.proofs.ValueLemmas.{not_nil, ascii_by, utf8_spaced, utf8_of_path, cut_at, cut_nowhere, stripped_front}
+use Rattle.tl_object.proofs.ValueLemmas.{not_nil, ascii_tested, utf8_spaced, utf8_of_path, cut_at, cut_nowhere, stripped_front}
 
 -- ---- the line of a file
-
-abbrev pub marks_text : Option (List ℕ) → Option (List ℕ) → List ℕ
-marks_text details language = mark_text (codes "details=\"") details ++ mark_text (codes "language=\"") language
 
 -- the line of a file, without its end
 abbrev pub file_text : FileEntry → List ℕ
@@ -112,9 +109,6 @@ file_again path (Some details) (Some language) is first second =
     ap file_value (append_assoc path (mark_text (codes "details=\"") (Some details)) (mark_text (codes "language=\"") (Some language))
     ∙ ap (λ (back : List ℕ). path ++ 32 ∷ (codes "details=\"" ++ back)) (append_assoc details (34 ∷ []) (32 ∷ (codes "language=\"" ++ language ++ 34 ∷ []))))
     ∙ marked path (codes "details=\"" ++ (details ++ 34 ∷ 32 ∷ (codes "language=\"" ++ language ++ 34 ∷ []))) (Some details) (Some language) is (both_marks details language first second)
-
-ascii_tested : (bytes : List ℕ) → list_all (λ b. nat_lt b 128) bytes ≡ true → IsUtf8 bytes
-ascii_tested bytes is = IsUtf8-from_ascii bytes (ascii_by (λ b. nat_lt b 128) (λ b e. grind (arith, nat_tests)) bytes is)
 
 mark_utf8 : (word : List ℕ) (mark : Option (List ℕ)) → list_all (λ b. nat_lt b 128) word ≡ true → IfSome mark IsMark → IsUtf8 (mark_text word mark)
 mark_utf8 word None is form = IsUtf8-nil

@@ -32,7 +32,7 @@ use Rattle.tl_object.specs.declared.head.Head.{Head}
 use Rattle.tl_object.specs.declared.head.Head.TheVariants as heads
 use Rattle.tl_object.specs.declared.head.Line.TheVariants as lines
 use Rattle.tl_object.proofs.PlainLemmas.{line_append, line_spaced, line_of_number, line_of_platform, line_of_digest, line_tested}
-use Rattle.tl_object.proofs.ValueLemmas.{both, not_nil, ascii_by, utf8_of_number, utf8_spaced, utf8_of_digest, cut_at, stripped_front, short_number, number_again, length-digest, digest_again}
+use Rattle.tl_object.proofs.ValueLemmas.{both, not_nil, ascii_by, ascii_tested, utf8_of_number, utf8_spaced, utf8_of_digest, cut_at, stripped_front, short_number, number_again, length-digest, digest_again}
 
 -- a byte of a key: no space, no `#` and no line end
 abbrev pub is_key_byte : ℕ → Bool
@@ -59,10 +59,6 @@ without at [] apart is = refl
 without at (b ∷ word) apart is =
     let parts = both (is_key_byte b) (list_all is_key_byte word) is in
     ap (λ t. t && list_all (λ c. not (c == at)) word) (to_not (b == at) (apart b parts.0)) ∙ without at word apart parts.1
-
-word_bytes : (word : List ℕ) → is_word word ≡ true → list_all is_key_byte word ≡ true
-word_bytes [] is = absurd (cc)
-word_bytes (b ∷ word) is = is
 
 line_of_word : (word : List ℕ) → list_all is_key_byte word ≡ true → IsLine word
 line_of_word word is = line_tested word (without 10 word (λ b e. (key_byte b e).3) is)
@@ -132,9 +128,6 @@ name_line name is = line_tested name (each name (name_parts name is).1)
 pub name_head : (name : List ℕ) → is_name name ≡ true → IsHead (codes "name" ++ 32 ∷ name) (heads.Name name)
 name_head name is =
     word_head (codes "name") name (heads.Name name) refl (name_line name is) (name_utf8 name is) (name_short name is) (formed_by (is_name name) name kinds.Value heads.Name is)
-
-ascii_tested : (bytes : List ℕ) → list_all (λ b. ltb b 128) bytes ≡ true → IsUtf8 bytes
-ascii_tested bytes is = IsUtf8-from_ascii bytes (ascii_by (λ b. ltb b 128) (λ b e. grind (arith, nat_tests)) bytes is)
 
 literal_head : (word value : List ℕ) (head : Head) → is_word word ≡ true → list_all (λ b. ltb b 128 && not (b == 10)) value ≡ true → length value ≤ 65536 → head_by (key_of word) word value ≡ Ok head → IsHead (word ++ 32 ∷ value) head
 literal_head word value head is plain short by_key =

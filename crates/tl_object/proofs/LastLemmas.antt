@@ -2,11 +2,8 @@
 use Rattle.std.proofs.Common.{◌≡◌, ℕ, Bool, true, false, cond, ◌&&◌, ◌||◌, List, [], ◌∷◌, ◌++◌, refl, ◌∙◌, ap}
 use Rattle.std.specs.List.{list_all}
 use Rattle.tl_object.specs.Rising.{comes_before, insert_by, has_key, is_rising}
+use Rattle.tl_object.proofs.ValueLemmas.{both}
 use Rattle.tl_object.proofs.RisingLemmas.{before_trans, before_not, before_apart}
-
-both : (a b : Bool) → (a && b) ≡ true → (a ≡ true) × (b ≡ true)
-both true b e = (refl, e)
-both false b e = absurd (cc)
 
 joined : (a b : Bool) → a ≡ true → b ≡ true → (a && b) ≡ true
 joined a b p q = ap (λ t. t && b) p ∙ q

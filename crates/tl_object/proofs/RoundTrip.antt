@@ -18,6 +18,7 @@ use Rattle.tl_object.specs.declared.object.Files.{Files}
 use Rattle.tl_object.specs.declared.object.DocFiles.{DocFiles}
 use Rattle.tl_object.specs.declared.object.Object.{Object}
 use Rattle.tl_object.specs.declared.builder.Builder.{Builder}
+use Rattle.tl_object.proofs.ValueLemmas.{both}
 use Rattle.tl_object.proofs.LastLemmas.{follows-none}
 use Rattle.tl_object.proofs.AgainLemmas.{Leads, Begins, leads-append, begins-name, begins-append, content-lines}
 use Rattle.tl_object.proofs.FieldLemmas.{told, told_files, told_doc, leads-category, leads-revision, leads-catalogue, leads-shortdesc, leads-relocated, leads-longdesc, leads-depends, leads-executes, leads-postactions, leads-facts, leads-box, leads-run, leads-src, leads-doc, leads-bins, bin_key}
@@ -109,10 +110,6 @@ whole_again o front texts files facts =
 told-same : (relocated : Bool) → unwrap_or (told relocated) false ≡ relocated
 told-same true = refl
 told-same false = refl
-
-both : (a b : Bool) → (a && b) ≡ true → (a ≡ true) × (b ≡ true)
-both true b is = (refl, is)
-both false b is = absurd (cc)
 
 -- a section that is left out has no blocks and no files
 files-same : (files : Files) → unwrap_or (told_files files) no_files ≡ files

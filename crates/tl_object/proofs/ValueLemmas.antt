@@ -43,6 +43,10 @@ ascii_by test small (b ∷ bytes) is =
     let parts = both (test b) (list_all test bytes) is in
     IsAscii-cons b bytes (small b parts.0) (ascii_by test small bytes parts.1)
 
+-- bytes below 128, by a test that computes
+pub ascii_tested : (bytes : List ℕ) → list_all (λ b. ltb b 128) bytes ≡ true → IsUtf8 bytes
+ascii_tested bytes is = IsUtf8-from_ascii bytes (ascii_by (λ b. ltb b 128) (λ b e. grind (arith, nat_tests)) bytes is)
+
 digit_small : (b : ℕ) → is_ascii_digit b ≡ true → b < 128
 digit_small b is = grind (arith, nat_tests)
 

@@ -379,8 +379,7 @@ fn put_all_files(out: &mut Vec<u8>, object: &Object) -> Result<(), AllocError>
     put_bins(out, object.bin.as_slice())
 }
 
-/// Writes the text of an entry behind what was written before. The text reads as the entry again, whatever stands before and
-/// behind it.
+/// Writes the text of an entry behind what was written before. Its lines read as the entry again, wherever they stand.
 pub fn append_object(out: &mut Vec<u8>, object: &Object) -> Result<(), AllocError>
     ensures written { OnOk result (out.new.items ≡ out.old.items ++ object_text object.now) }
     ensures plain { OnOk result (IsPlain out.old.items → IsPlain out.new.items) }
