@@ -3,6 +3,8 @@
 
 mod builder;
 mod copy;
+#[cfg(test)]
+mod copy_tests;
 mod fault;
 mod file;
 mod file_paths;
