@@ -1,3 +1,4 @@
 pub mod Drops
 pub mod Named
 pub mod Built
+pub mod Seen
