@@ -2,3 +2,4 @@ pub mod Drops
 pub mod Named
 pub mod Built
 pub mod Seen
+pub mod Places
