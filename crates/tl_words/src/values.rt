@@ -1,6 +1,5 @@
 // An action with its options and operands, whose words have no fault.
-ghost use Rattle.std.specs.Prelude.{◌≡◌, IfOk, bytes_eq, option_map};
-ghost use Rattle.std.specs.List.{list_any};
+ghost use Rattle.std.specs.Prelude.{◌≡◌, IfOk, map, option_map};
 ghost use Rattle.tl_words.specs.Commands.{first_word, may_word, later_words, with_word, distinct, number_within, check_of, pins_by, pins_of, action_with};
 ghost use Rattle.tl_words.specs.Settings.{has_option};
 ghost use Rattle.tl_words.specs.Inside.{texts, parts_left, words_left};
@@ -15,6 +14,7 @@ use crate::parts::PartsIter;
 use crate::plains::PlainsIter;
 use crate::table::OptionName;
 use std::alloc::{AllocError, Global};
+use std::collections::BTreeSet;
 use tl_path::{Check, Name, Tag};
 
 fn read_name(alloc: Global, word: &[u8]) -> Result<Name, AllocError>
@@ -61,48 +61,55 @@ fn take_name(alloc: Global, operands: &mut PlainsIter<'_>) -> Result<Option<Name
     }
 }
 
-fn has_name(names: &[Name], word: &[u8]) -> bool
-    ensures { result ≡ list_any (bytes_eq word.now) names.now }
+// Each word once, in its first place.
+fn distinct_words<'a>(alloc: Global, operands: PlainsIter<'a>) -> Result<Vec<&'a [u8]>, AllocError>
+    ensures { IfOk result (λ words. map (λ word. word.now) words.items ≡ distinct (words_left operands.entry)) }
 {
-    names.iter().any(|name| word == name.bytes())
+    let mut seen = BTreeSet::new(alloc);
+    let mut words = Vec::new(alloc);
+    for operand in operands {
+        let is_new = seen.insert(operand.word)?;
+        if is_new {
+            words.push(operand.word)?;
+        }
+    }
+    Ok(words)
+}
+
+fn names_of(alloc: Global, words: &[&[u8]]) -> Result<Vec<Name>, AllocError>
+    ensures { IfOk result (λ names. names.items ≡ map (λ word. word.now) words.now) }
+{
+    let mut names = Vec::with_capacity(alloc, words.len())?;
+    for word in words {
+        names.push(read_name(alloc, *word)?)?;
+    }
+    Ok(names)
 }
 
 // Each name once.
 fn read_names(alloc: Global, operands: PlainsIter<'_>) -> Result<Names, AllocError>
     ensures { IfOk result (λ names. names ≡ distinct (words_left operands.entry)) }
 {
-    let mut names = Vec::new(alloc);
-    for operand in operands {
-        if !has_name(&names, operand.word) {
-            names.push(read_name(alloc, operand.word)?)?;
-        }
+    let words = distinct_words(alloc, operands)?;
+    Ok(Names::new(names_of(alloc, &words)?))
+}
+
+fn texts_of(alloc: Global, words: &[&[u8]]) -> Result<Vec<Vec<u8>>, AllocError>
+    ensures { IfOk result (λ copied. texts copied.items ≡ map (λ word. word.now) words.now) }
+{
+    let mut copied = Vec::with_capacity(alloc, words.len())?;
+    for word in words {
+        copied.push(Vec::from_slice(alloc, *word)?)?;
     }
-    Ok(Names::new(names))
-}
-
-fn has_text(kept: &[Vec<u8>], word: &[u8]) -> bool
-    ensures { result ≡ list_any (bytes_eq word.now) (texts kept.now) }
-{
-    has_bytes(kept, word)
-}
-
-fn has_bytes(kept: &[Vec<u8>], word: &[u8]) -> bool
-    ensures { result ≡ list_any (λ text. bytes_eq word.now text.items) kept.now }
-{
-    kept.iter().any(|text| word == text.as_slice())
+    Ok(copied)
 }
 
 // Each glob once.
 fn read_globs(alloc: Global, operands: PlainsIter<'_>) -> Result<Texts, AllocError>
     ensures { IfOk result (λ globs. globs ≡ distinct (words_left operands.entry)) }
 {
-    let mut globs = Vec::new(alloc);
-    for operand in operands {
-        if !has_text(&globs, operand.word) {
-            globs.push(Vec::from_slice(alloc, operand.word)?)?;
-        }
-    }
-    Ok(Texts::new(globs))
+    let words = distinct_words(alloc, operands)?;
+    Ok(Texts::new(texts_of(alloc, &words)?))
 }
 
 // Each value as often as it stands.

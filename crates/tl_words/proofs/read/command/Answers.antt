@@ -7,7 +7,7 @@ use Rattle.tl_words.specs.Settings.{options_fault}
 use Rattle.tl_words.specs.Faults.{size_fault, action_fault, plains}
 use Rattle.tl_words.specs.Inside.{texts, parts_left}
 use Rattle.tl_words.proofs.Drops.{length_texts}
-use Rattle.tl_words.specs.Places.{options_place, action_place}
+use Rattle.tl_words.proofs.Places.{options_place, action_place}
 use Rattle.tl_words.proofs.read.command.Goals as goal
 
 pub refused-requires : goal.refused-requires
