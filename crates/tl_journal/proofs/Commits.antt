@@ -1,16 +1,18 @@
 -- Before the gate is written or removed.
-use Rattle.std.proofs.Common.{◌≡◌, ◌≢◌, true, List, [], ◌∷◌, ℕ, Option, Some, refl, sym, ◌∙◌, ap, subst, inl, inr}
+use Rattle.std.proofs.Common.{◌≡◌, ◌≢◌, true, List, [], ◌∷◌, ℕ, Option, Some, None, refl, sym, ◌∙◌, ap, subst, inl, inr}
 use Rattle.std.specs.Option.{unwrap_or}
 use Rattle.tl_model.specs.Volume.{Name, Volume, at, SameBut}
 use Rattle.tl_model.specs.Seen.{Seen, Syncs}
 use Rattle.tl_journal_text.specs.declared.slot.Slot.{Slot}
-use Rattle.tl_journal_text.specs.Slots.{body_of, open_slot, spare, other}
+use Rattle.tl_journal_text.specs.declared.slot.Slot.TheVariants.{Two}
+use Rattle.tl_journal_text.specs.Slots.{gate, body_of, open_slot, spare, other}
 use Rattle.tl_journal_text.specs.Records.{Record, after}
 use Rattle.tl_journal_text.specs.Body.{records_of, records_in}
 use Rattle.tl_journal_text.specs.Stand.{tree_of, bytes_at}
 use Rattle.tl_journal_text.proofs.ReadBack.{written}
 use Rattle.tl_journal_text.proofs.Trees.{other_other, bodies_apart}
-use Rattle.tl_journal.specs.States.{IsClean, IsStaging, KeepsTree, Between, Fixed, Grows, staged, pending, spare_body}
+use Rattle.tl_journal.specs.States.{IsClean, IsStaging, KeepsTree, Between, IsCommitted, IsRested, Fixed, Grows, staged, pending, spare_body}
+use Rattle.tl_journal.specs.Touching.{TouchesOnly, only_weaker}
 use Rattle.tl_journal.proofs.Live.{free_spare, keeps_tree, tree_join}
 use Rattle.tl_journal.proofs.Gates.{between_start, again}
 use Rattle.tl_journal.proofs.Staged.{ended, spare_stays}
@@ -54,3 +56,30 @@ close_start base mid new slot clean is far cleared sync =
 -- the other slot's body needn't stay
 pub free_other : (s : Seen) (slot x : Slot) → open_slot s.present.held ≡ Some slot → x ≡ other slot → (q : Name) → Fixed s q → q ≢ body_of x
 free_other s slot x is same q fixed e = free_spare s.present.held q fixed (e ∙ ap body_of same ∙ sym (ap (λ (o : Option Slot). body_of (spare o)) is))
+
+-- ---- what is touched
+
+-- the body that was staged
+pub commit_staged : (old new : Seen) (opened : Option Slot) (slot : Slot) → slot ≡ spare opened → TouchesOnly (λ name. name ≡ body_of slot) old new → TouchesOnly (IsCommitted opened) old new
+commit_staged old new opened slot is far = only_weaker (λ name. name ≡ body_of slot) (IsCommitted opened) old new (λ name here. inr (inl (here ∙ ap body_of is))) far
+
+-- the other body
+pub commit_other : (old new : Seen) (opened : Option Slot) → TouchesOnly (λ name. (opened ≡ None) × (name ≡ body_of (other (spare opened)))) old new → TouchesOnly (IsCommitted opened) old new
+commit_other old new opened far = only_weaker (λ name. (opened ≡ None) × (name ≡ body_of (other (spare opened)))) (IsCommitted opened) old new (λ name here. inr (inr here)) far
+
+-- and the gate
+pub commit_gate : (old new : Seen) (opened : Option Slot) → TouchesOnly (λ name. name ≡ gate) old new → TouchesOnly (IsCommitted opened) old new
+commit_gate old new opened far = only_weaker (λ name. name ≡ gate) (IsCommitted opened) old new (λ name here. inl here) far
+
+-- the second body where the gate is closed
+pub settles_two : (old new : Seen) (opened : Option Slot) → opened ≡ None → TouchesOnly (λ name. name ≡ body_of Two) old new → TouchesOnly (λ name. (opened ≡ None) × (name ≡ body_of (other (spare opened)))) old new
+settles_two old new opened shut far =
+    only_weaker (λ name. name ≡ body_of Two) (λ name. (opened ≡ None) × (name ≡ body_of (other (spare opened)))) old new
+    (λ name here. (shut, here ∙ ap (λ (o : Option Slot). body_of (other (spare o))) (sym shut))) far
+
+-- the body at which the gate isn't open
+pub rest_body : (old new : Seen) (slot x : Slot) → x ≡ other slot → TouchesOnly (λ name. name ≡ body_of x) old new → TouchesOnly (IsRested (Some slot)) old new
+rest_body old new slot x is far = only_weaker (λ name. name ≡ body_of x) (IsRested (Some slot)) old new (λ name here. inr (here ∙ ap body_of is)) far
+
+pub rest_gate : (old new : Seen) (slot : Slot) → TouchesOnly (λ name. name ≡ gate) old new → TouchesOnly (IsRested (Some slot)) old new
+rest_gate old new slot far = only_weaker (λ name. name ≡ gate) (IsRested (Some slot)) old new (λ name here. inl here) far

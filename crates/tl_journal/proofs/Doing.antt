@@ -6,7 +6,7 @@ use Rattle.std.specs.FinMap as map
 use Rattle.std.proofs.Math.Seq.{take-add}
 use Rattle.std.proofs.lemmas.List.{drop-drop}
 use Rattle.tl_model.specs.Volume.{Name, Volume, at, SameBut, at-insert_apart}
-use Rattle.tl_model.specs.Seen.{Seen, Changes}
+use Rattle.tl_model.specs.Seen.{Seen, Quiet, Changes}
 use Rattle.tl_journal_text.specs.declared.slot.Slot.{Slot}
 use Rattle.tl_journal_text.specs.Slots.{body_of, open_slot}
 use Rattle.tl_journal_text.specs.Records.{Record, Fits, name_of, is_target, IsAmong, after}
@@ -16,14 +16,28 @@ use Rattle.tl_journal_text.proofs.Acts.{tree_after_one, same_but_join, inserted}
 use Rattle.tl_journal_text.proofs.Targets.{target_outside}
 use Rattle.tl_journal_text.proofs.Trees.{not_body, stand_open}
 use Rattle.tl_journal_text.proofs.Turns.{one_read, none_read, rest_at, records_whole}
-use Rattle.tl_journal.specs.States.{pending, IsLive, IsClean, Keeps}
+use Rattle.tl_journal.specs.States.{pending, IsPending, IsLive, IsClean, Keeps, Redoes}
+use Rattle.tl_journal.specs.Touching.{only_start, only_change, only_quiet}
 use Rattle.tl_journal.specs.Reading.{Part, body_at, IsPartOf}
 use Rattle.tl_journal.specs.Acting.{MayAct, Acts}
-use Rattle.tl_journal.proofs.Live.{keeps_start, keeps_change, keeps_live, keeps_stand, free_record}
+use Rattle.tl_journal.proofs.Live.{keeps_start, keeps_change, keeps_quiet, keeps_live, keeps_stand, free_record}
+
+pub redoes_start : (s : Seen) → IsLive s.present → Redoes s s
+redoes_start s live = record { keeps = keeps_start s live; only = only_start (IsPending s.present.held) s }
+
+-- calls more that change nothing
+pub redoes_quiet : (base mid new : Seen) → Redoes base mid → Quiet mid new → Redoes base new
+redoes_quiet base mid new far quiet = record {
+  keeps = keeps_quiet base mid new far.keeps quiet;
+  only = only_quiet (IsPending base.present.held) base mid new far.only quiet;
+}
 
 -- one call more that changes the path of a record
-pub keeps_record : (base mid new : Seen) (ok : Bool) (name : Name) → IsAmong name (pending base.present.held) → Keeps base mid → Changes ok name mid new → Keeps base new
-keeps_record base mid new ok name among far change = keeps_change base mid new ok name far change (free_record base.present.held name far.live.fits among)
+pub redoes_record : (base mid new : Seen) (ok : Bool) (name : Name) → IsAmong name (pending base.present.held) → Redoes base mid → Changes ok name mid new → Redoes base new
+redoes_record base mid new ok name among far change = record {
+  keeps = keeps_change base mid new ok name far.keeps change (free_record base.present.held name far.keeps.live.fits among);
+  only = only_change (IsPending base.present.held) base mid new ok name among far.only change;
+}
 
 -- a path that a record may change is no body
 pub target_apart : (slot : Slot) (name : Name) → is_target name ≡ true → name ≢ body_of slot
@@ -62,7 +76,7 @@ filled_is held mid new slot name from size ne made others is =
 -- ---- the loop
 
 pub record Doing (base s : Seen) (slot : Slot) (from : ℕ) : Type 0 where
-  pub progress : Keeps base s
+  pub progress : Redoes base s
   pub opened : open_slot base.present.held ≡ Some slot
   pub turns : ℕ
   pub left : List Record
@@ -73,7 +87,7 @@ pub record Doing (base s : Seen) (slot : Slot) (from : ℕ) : Type 0 where
 
 pub doing_start : (s : Seen) (slot : Slot) → IsLive s.present → open_slot s.present.held ≡ Some slot → Doing s s slot 0
 doing_start s slot live opened = record {
-  progress = keeps_start s live;
+  progress = redoes_start s live;
   opened = opened;
   turns = suc (length (body_at slot s));
   left = pending s.present.held;
@@ -87,7 +101,7 @@ pub body_stays : (base s : Seen) (slot : Slot) → Keeps base s → open_slot ba
 body_stays base s slot far opened = ap (λ (o : Option (List ℕ)). unwrap_or o []) (far.apart (body_of slot) (inr (inl (slot, opened, refl))))
 
 pub doing_may : (base s : Seen) (slot : Slot) (from : ℕ) → Doing base s slot from → MayAct base (next from (drop from (body_at slot s)))
-doing_may base s slot from doing = subst (λ (l : List ℕ). MayAct base (next from (drop from l))) (sym (body_stays base s slot doing.progress doing.opened)) (by (next from (drop from (body_at slot base))) refl)
+doing_may base s slot from doing = subst (λ (l : List ℕ). MayAct base (next from (drop from l))) (sym (body_stays base s slot doing.progress.keeps doing.opened)) (by (next from (drop from (body_at slot base))) refl)
   where
     by : (x : Next) → next from (drop from (body_at slot base)) ≡ x → MayAct base x
     by Ends is = tt
@@ -96,11 +110,11 @@ doing_may base s slot from doing = subst (λ (l : List ℕ). MayAct base (next f
         let one = one_read doing.turns from (drop from (body_at slot base)) r rest doing.left is doing.reads in
         doing.among (name_of r) (subst (λ (l : List Record). IsAmong (name_of r) l) (sym one.first) (inl refl))
 
-pub doing_more : (base mid new : Seen) (slot : Slot) (from rest : ℕ) → Doing base mid slot from → Keeps base new → Acts (body_at slot mid) from rest mid.present.held new.present.held → from < rest → rest ≤ length (body_at slot mid) → Doing base new slot rest
+pub doing_more : (base mid new : Seen) (slot : Slot) (from rest : ℕ) → Doing base mid slot from → Redoes base new → Acts (body_at slot mid) from rest mid.present.held new.present.held → from < rest → rest ≤ length (body_at slot mid) → Doing base new slot rest
 doing_more base mid new slot from rest doing progress acts lt le =
     let r = acts.r in
     let text = body_at slot base in
-    let stays = body_stays base mid slot doing.progress doing.opened in
+    let stays = body_stays base mid slot doing.progress.keeps doing.opened in
     let is : next from (drop from text) ≡ Takes r (drop rest text) = subst (λ (l : List ℕ). next from (drop from l) ≡ Takes r (drop rest l)) stays acts.reads in
     let one = one_read doing.turns from (drop from text) r (drop rest text) doing.left is doing.reads in
     let fits = subst (λ (l : List Record). AllByRecursion Fits l) one.first doing.fits in
@@ -122,7 +136,7 @@ doing_more base mid new slot from rest doing progress acts lt le =
 -- all records have been carried out
 pub doing_done : (base mid s : Seen) (slot : Slot) (from : ℕ) → Doing base mid slot from → Stops (next from (drop from (body_at slot mid))) → s.present.held ≡ mid.present.held → Keeps base s → IsClean s.present
 doing_done base mid s slot from doing stops same far =
-    let none = none_read doing.turns from (drop from (body_at slot base)) doing.left (subst (λ (l : List ℕ). Stops (next from (drop from l))) (body_stays base mid slot doing.progress doing.opened) stops) doing.reads in
+    let none = none_read doing.turns from (drop from (body_at slot base)) doing.left (subst (λ (l : List ℕ). Stops (next from (drop from l))) (body_stays base mid slot doing.progress.keeps doing.opened) stops) doing.reads in
     let tree : tree_of mid.present.held ≡ after (pending base.present.held) (tree_of base.present.held) = ap (λ (l : List Record). after l (tree_of mid.present.held)) (sym none) ∙ doing.tree in
     record {
       live = keeps_live base s far;

@@ -1,5 +1,5 @@
 -- The gate is written or removed while nothing else changes.
-use Rattle.std.proofs.Common.{◌≡◌, ◌≢◌, ◌⊎◌, ℕ, Bool, true, false, List, [], ◌∷◌, Option, Some, None, Result, Ok, Err, OnOk, refl, sym, ◌∙◌, ap, subst, inl, inr}
+use Rattle.std.proofs.Common.{◌≡◌, ◌≢◌, ◌⊎◌, ℕ, Bool, true, List, [], ◌∷◌, Option, Some, None, Result, Ok, Err, OnOk, refl, sym, ◌∙◌, ap, subst, inl, inr}
 use Rattle.std.specs.Option.{unwrap_or}
 use Rattle.std.specs.List.{AllByRecursion}
 use Rattle.std.specs.FinSet as set
@@ -15,6 +15,7 @@ use Rattle.tl_journal_text.specs.Body.{records_of}
 use Rattle.tl_journal_text.specs.Stand.{tree_of, bytes_at, stand, Stays, IsBeforeOrAfter}
 use Rattle.tl_journal_text.proofs.Trees.{same_tree, stand_shut, stand_open, not_gate, gate_body}
 use Rattle.tl_journal.specs.States.{pending, IsLive, IsClean, KeepsTree, Between, IsSettled}
+use Rattle.tl_journal.specs.Touching.{sync_less}
 use Rattle.tl_journal.proofs.Live.{nothing_more, pending_shut, pending_open, keeps_tree}
 
 cases_slot : (a b : Slot) → (a ≡ b) ⊎ (a ≡ other b)
@@ -57,11 +58,6 @@ between_change base mid new ok slot rs old_rs far change = record {
   said = change.said ∙ far.said;
   pictures = after_change base mid new _ ok gate far.pictures change (between_leaves base mid slot rs old_rs far);
 }
-
--- what a sync leaves touched was touched
-sync_less : (ok : Bool) (mid new : Seen) → Syncs ok mid new → (name : Name) → set.contains mid.present.touched name ≡ false → set.contains new.present.touched name ≡ false
-sync_less true mid new sync name none = ap (λ (s : _). set.contains s name) (sync.settled refl) ∙ set.contains-empty _ name
-sync_less false mid new sync name none = ap (λ (s : _). set.contains s name) (sync.unsettled refl) ∙ none
 
 pub settles : (mid new : Seen) → Syncs true mid new → IsSettled new
 settles mid new sync name = ap (λ (s : _). set.contains s name) (sync.settled refl) ∙ set.contains-empty _ name
@@ -115,6 +111,10 @@ opened base s slot rs old_rs far fits is_byte settled =
   where
     some_is : (x y : Slot) → Some x ≡ Some y → x ≡ y
     some_is x y e = cc
+
+-- and its records are those of the slot
+pub opened_pending : (base s : Seen) (slot : Slot) (rs old_rs : List Record) → Between base slot rs old_rs s → at s.present.held gate ≡ Some (byte_of slot ∷ []) → pending s.present.held ≡ rs
+opened_pending base s slot rs old_rs far is_byte = pending_open s.present.held slot rs (ap opens is_byte ∙ opens_byte slot) far.here
 
 -- ---- records that change nothing
 

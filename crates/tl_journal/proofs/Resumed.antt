@@ -14,7 +14,9 @@ use Rattle.tl_journal_text.specs.Records.{Record, Fits}
 use Rattle.tl_journal_text.specs.Body.{reading, Whole, records_of, records_in}
 use Rattle.tl_journal_text.specs.Stand.{bytes_at, stand, Stays, IsResumed, SaysFront}
 use Rattle.tl_journal_text.proofs.Turns.{all_fit}
-use Rattle.tl_journal.specs.States.{IsLive, IsSettled, Keeps, pending}
+use Rattle.tl_journal_text.proofs.Trees.{stand_open}
+use Rattle.tl_journal.specs.States.{IsLive, IsSettled, IsPending, Keeps, Redoes, pending}
+use Rattle.tl_journal.specs.Touching.{TouchesOnly, only_start, only_quiet, only_join}
 use Rattle.tl_journal.specs.Reading.{Part, IsPartOf, body_at}
 use Rattle.tl_journal.proofs.Live.{nothing_more, pending_open, keeps_start, keeps_quiet, keeps_join}
 
@@ -44,6 +46,19 @@ open_quiet old new o quiet is = ap (λ (m : Moment). open_slot m.held) quiet.pre
 pub keeps_through : (base mid new : Seen) → IsLive base.present → Quiet base mid → Keeps mid new → Keeps base new
 keeps_through base mid new live quiet near = keeps_join base mid new (keeps_quiet base base mid (keeps_start base live) quiet) near
 
+-- calls that change nothing, and then others that touch names of the records that are there
+pub only_through : (base mid new : Seen) → Quiet base mid → TouchesOnly (IsPending mid.present.held) mid new → TouchesOnly (IsPending base.present.held) base new
+only_through base mid new quiet near =
+    only_join (IsPending base.present.held) base mid new
+    (only_quiet (IsPending base.present.held) base base mid (only_start (IsPending base.present.held) base) quiet)
+    (subst (λ (m : Moment). TouchesOnly (IsPending m.held) mid new) quiet.present near)
+
+pub redoes_through : (base mid new : Seen) → IsLive base.present → Quiet base mid → Redoes mid new → Redoes base new
+redoes_through base mid new live quiet near = record {
+  keeps = keeps_through base mid new live quiet near.keeps;
+  only = only_through base mid new quiet near.only;
+}
+
 -- an open gate before a whole body, with nothing touched
 pub live_from : (s : Seen) (slot : Slot) (rs : List Record) → open_slot s.present.held ≡ Some slot → reading (body_at slot s) ≡ Whole rs → length (body_at slot s) < 2 ^ 64 → IsSettled s → IsLive s.present
 live_from s slot rs opened whole small settled =
@@ -58,6 +73,13 @@ live_from s slot rs opened whole small settled =
   where
     some_is : (x y : Slot) → Some x ≡ Some y → x ≡ y
     some_is x y e = cc
+
+-- a volume whose open gate has a whole body before it stands for something
+pub whole_stands : {P : Type 0} (s : Seen) (slot : Slot) (rs : List Record) → open_slot s.present.held ≡ Some slot → reading (body_at slot s) ≡ Whole rs → stand s.present.held ≡ None → P
+whole_stands s slot rs opened whole none = absurd (some_none _ (sym (stand_open s.present.held slot rs opened (ap records_in whole)) ∙ none))
+  where
+    some_none : (v : Volume) → Some v ≡ None → ⊥
+    some_none v e = cc
 
 -- ---- pictures
 

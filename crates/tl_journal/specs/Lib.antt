@@ -3,3 +3,4 @@ pub mod Faults
 pub mod Items
 pub mod Reading
 pub mod States
+pub mod Touching

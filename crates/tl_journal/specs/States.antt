@@ -11,6 +11,7 @@ use Rattle.tl_journal_text.specs.Slots.{gate, body_of, open_slot, spare, other}
 use Rattle.tl_journal_text.specs.Records.{Record, is_ours, is_target, Fits, IsAmong, after, records_text, write_head}
 use Rattle.tl_journal_text.specs.Body.{records_of}
 use Rattle.tl_journal_text.specs.Stand.{tree_of, bytes_at, stand, Stays, IsBeforeOrAfter}
+use Rattle.tl_journal.specs.Touching.{TouchesOnly}
 
 -- the records of the body of a slot, if a slot is given; none else
 abbrev pub records_at : Option Slot → Volume → List Record
@@ -20,6 +21,10 @@ records_at (Some slot) volume = unwrap_or (records_of (bytes_at volume (body_of 
 -- the records of the body at which the gate is open; none where it is closed
 unfoldable pub pending : Volume → List Record
 pending volume = records_at (open_slot volume) volume
+
+-- a name that one of those records changes
+abbrev pub IsPending : Volume → Name → Type 0
+IsPending volume name = IsAmong name (pending volume)
 
 -- a name that stays while those records are carried out or the next body is written: the gate, the body at which it is open,
 -- and each name outside the journal's folder that no record changes
@@ -40,6 +45,19 @@ pub record IsClean (m : Moment) : Type 0 where
 -- the body that is being written
 abbrev pub spare_body : Volume → Name
 spare_body volume = body_of (spare (open_slot volume))
+
+-- its name, where the gate is open so: staging touches it alone
+abbrev pub IsStaged : Option Slot → Name → Type 0
+IsStaged opened name = name ≡ body_of (spare opened)
+
+-- the names that a commit touches: the gate, the body that was staged, and the other body where the gate is closed
+abbrev pub IsCommitted : Option Slot → Name → Type 0
+IsCommitted opened name = (name ≡ gate) ⊎ (IsStaged opened name ⊎ ((opened ≡ None) × (name ≡ body_of (other (spare opened)))))
+
+-- the names that a journal touches to come to rest: the gate and the body at which it isn't open; none where it is closed
+abbrev pub IsRested : Option Slot → Name → Type 0
+IsRested None name = ⊥
+IsRested (Some slot) name = (name ≡ gate) ⊎ (name ≡ body_of (other slot))
 
 -- the records that have been staged
 abbrev pub staged : Seen → List Record
@@ -96,6 +114,11 @@ pub record Keeps (base s : Seen) : Type 0 where
 pub record KeepsTree (base s : Seen) : Type 0 where
   pub keeps : Keeps base s
   pub outside : (name : Name) → is_ours name ≡ false → at s.present.held name ≡ at base.present.held name
+
+-- and only names of base's records have changed or are touched
+pub record Redoes (base s : Seen) : Type 0 where
+  pub keeps : Keeps base s
+  pub only : TouchesOnly (IsPending base.present.held) base s
 
 -- nothing is touched
 abbrev pub IsSettled : Seen → Type 0

@@ -9,7 +9,7 @@ ghost use Rattle.tl_journal_text.specs.Stand.{bytes_at};
 ghost use Rattle.tl_journal_text.specs.Records.{IsAmong};
 ghost use Rattle.tl_journal_text.specs.Body.{next};
 ghost use Rattle.tl_journal.specs.Reading.{body_at, IsPartOf, SameBody};
-ghost use Rattle.tl_journal.specs.States.{Keeps, IsLive, IsClean, pending};
+ghost use Rattle.tl_journal.specs.States.{Redoes, IsLive, IsClean, pending};
 ghost use Rattle.tl_journal.specs.Acting.{MayAct, Acted};
 
 use crate::body::Body;
@@ -36,7 +36,7 @@ fn copy_piece<H: Host>(
     ensures most { IfOk result (λ count. count ≤ left) }
     ensures some { Told H.tells (IfOk result (λ count. 0 < count)) }
     ensures part { Told H.tells (OnOk result (IsPartOf body.new (H.seen host.new))) }
-    ensures progress { Told H.tells ((base : Seen) → IsAmong name.entry (pending base.present.held) → Keeps base (H.seen host.old) → Keeps base (H.seen host.new)) }
+    ensures progress { Told H.tells ((base : Seen) → IsAmong name.entry (pending base.present.held) → Redoes base (H.seen host.old) → Redoes base (H.seen host.new)) }
     ensures others { Told H.tells (SameBut name.entry (H.seen host.old).present.held (H.seen host.new).present.held) }
     ensures copied { Told H.tells (IfOk result (λ count. at (H.seen host.new).present.held name.entry
         ≡ Some (bytes_at (H.seen host.old).present.held name.entry ++ take count (drop from (body_at body.old.slot (H.seen host.old)))))) }
@@ -64,7 +64,7 @@ fn copy<H: Host>(
     ensures cause { HasCause (H.seen host.old).faults (H.seen host.new).faults result }
     ensures same { SameBody body.old body.new }
     ensures part { Told H.tells (OnOk result (IsPartOf body.new (H.seen host.new))) }
-    ensures progress { Told H.tells ((base : Seen) → IsAmong name.entry (pending base.present.held) → Keeps base (H.seen host.old) → Keeps base (H.seen host.new)) }
+    ensures progress { Told H.tells ((base : Seen) → IsAmong name.entry (pending base.present.held) → Redoes base (H.seen host.old) → Redoes base (H.seen host.new)) }
     ensures others { Told H.tells (SameBut name.entry (H.seen host.old).present.held (H.seen host.new).present.held) }
     ensures copied { Told H.tells (OnOk result (at (H.seen host.new).present.held name.entry
         ≡ Some (take size (drop from (body_at body.old.slot (H.seen host.old)))))) }
@@ -95,7 +95,7 @@ fn write<H: Host>(
     ensures cause { HasCause (H.seen host.old).faults (H.seen host.new).faults result }
     ensures same { SameBody body.old body.new }
     ensures part { Told H.tells (OnOk result (IsPartOf body.new (H.seen host.new))) }
-    ensures progress { Told H.tells ((base : Seen) → IsAmong name.entry (pending base.present.held) → Keeps base (H.seen host.old) → Keeps base (H.seen host.new)) }
+    ensures progress { Told H.tells ((base : Seen) → IsAmong name.entry (pending base.present.held) → Redoes base (H.seen host.old) → Redoes base (H.seen host.new)) }
     ensures written { Told H.tells (OnOk result ((H.seen host.new).present.held
         ≡ map.insert (H.seen host.old).present.held name.entry (take size (drop from (body_at body.old.slot (H.seen host.old)))))) }
 {
@@ -116,7 +116,7 @@ fn step<H: Host>(
     ensures same { SameBody body.old body.new }
     ensures part { Told H.tells (OnOk result (IsPartOf body.new (H.seen host.new))) }
     ensures inside { IfOk result (λ next. IfSome next (λ rest. (from < rest) × (rest ≤ body.old.size))) }
-    ensures progress { Told H.tells ((base : Seen) → Keeps base (H.seen host.old) → MayAct base (next from (drop from (body_at body.old.slot (H.seen host.old)))) → Keeps base (H.seen host.new)) }
+    ensures progress { Told H.tells ((base : Seen) → Redoes base (H.seen host.old) → MayAct base (next from (drop from (body_at body.old.slot (H.seen host.old)))) → Redoes base (H.seen host.new)) }
     ensures acted { Told H.tells (IfOk result (Acted (body_at body.old.slot (H.seen host.old)) from (H.seen host.old).present.held (H.seen host.new).present.held)) }
 {
     match next(body, host, from, name)? {
@@ -137,13 +137,13 @@ fn step<H: Host>(
     }
 }
 
-// Carries out all of them.
+/// Carries out all of them. The host failed where it answers `Failed`; some may have been carried out then.
 pub fn steps<H: Host>(body: &mut Body, host: &mut H) -> Result<(), Failed>
     requires part { Told H.tells (IsPartOf body.old (H.seen host.old)) }
     requires opened { Told H.tells (open_slot (H.seen host.old).present.held ≡ Some body.old.slot) }
     requires live { Told H.tells (IsLive (H.seen host.old).present) }
     ensures cause { HasCause (H.seen host.old).faults (H.seen host.new).faults result }
-    ensures keeps { Told H.tells (Keeps (H.seen host.old) (H.seen host.new)) }
+    ensures redoes { Told H.tells (Redoes (H.seen host.old) (H.seen host.new)) }
     ensures clean { Told H.tells (OnOk result (IsClean (H.seen host.new).present)) }
 {
     let mut name = [0; 1024];

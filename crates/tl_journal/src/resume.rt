@@ -7,8 +7,9 @@ ghost use Rattle.tl_journal_text.specs.Records.{Record};
 ghost use Rattle.tl_journal_text.specs.Body.{reading, Whole, Bad};
 ghost use Rattle.tl_journal_text.specs.Stand.{tree_of, stand, journal_fault, Stays, IsResumed};
 ghost use Rattle.tl_journal.specs.Reading.{body_at, IsPartOf, SameBody};
-ghost use Rattle.tl_journal.specs.States.{IsLive, IsClean, IsSettled, Keeps};
+ghost use Rattle.tl_journal.specs.States.{IsLive, IsClean, IsSettled, IsPending, Redoes};
 ghost use Rattle.tl_journal.specs.Faults.{IsFault};
+ghost use Rattle.tl_journal.specs.Touching.{TouchesOnly};
 ghost use Rattle.tl_journal.specs.declared.resume.RecoverError.TheVariants.{HostFault};
 
 use crate::body::Body;
@@ -91,7 +92,7 @@ pub fn apply<H: Host>(host: &mut H, slot: Slot) -> Result<(), Failed>
     requires live { Told H.tells (IsLive (H.seen host.old).present) }
     requires opened { Told H.tells (open_slot (H.seen host.old).present.held ≡ Some slot) }
     ensures cause { HasCause (H.seen host.old).faults (H.seen host.new).faults result }
-    ensures keeps { Told H.tells (Keeps (H.seen host.old) (H.seen host.new)) }
+    ensures redoes { Told H.tells (Redoes (H.seen host.old) (H.seen host.new)) }
     ensures clean { Told H.tells (OnOk result (IsClean (H.seen host.new).present)) }
 {
     let mut body = body_of(host, slot)?;
@@ -105,6 +106,8 @@ fn finish<H: Host>(host: &mut H, slot: Slot) -> Result<(), RecoverError>
     ensures later { (H.seen host.old).faults ≤ (H.seen host.new).faults }
     ensures cause { IfErr result (λ e. e ≡ HostFault → Rose (H.seen host.old).faults (H.seen host.new).faults) }
     ensures bad { Told H.tells (IfErr result (IsFault (H.seen host.old) (H.seen host.new))) }
+    ensures touches { Told H.tells (TouchesOnly (IsPending (H.seen host.old).present.held) (H.seen host.old) (H.seen host.new)) }
+    ensures kept { Told H.tells (stand (H.seen host.old).present.held ≡ None → (H.seen host.new).present.held ≡ (H.seen host.old).present.held) }
     ensures clean { Told H.tells (OnOk result (IsClean (H.seen host.new).present)) }
     ensures open_at { Told H.tells (OnOk result (open_slot (H.seen host.new).present.held ≡ Some slot)) }
     ensures stays { Told H.tells (Stays (H.seen host.old) (H.seen host.new)) }
@@ -124,6 +127,8 @@ pub fn resume<H: Host>(host: &mut H) -> Result<Option<Slot>, RecoverError>
     ensures later { (H.seen host.old).faults ≤ (H.seen host.new).faults }
     ensures cause { IfErr result (λ e. e ≡ HostFault → Rose (H.seen host.old).faults (H.seen host.new).faults) }
     ensures bad { Told H.tells (IfErr result (IsFault (H.seen host.old) (H.seen host.new))) }
+    ensures touches { Told H.tells (TouchesOnly (IsPending (H.seen host.old).present.held) (H.seen host.old) (H.seen host.new)) }
+    ensures kept { Told H.tells (stand (H.seen host.old).present.held ≡ None → (H.seen host.new).present.held ≡ (H.seen host.old).present.held) }
     ensures clean { Told H.tells (OnOk result (IsClean (H.seen host.new).present)) }
     ensures opened { Told H.tells (IfOk result (λ opened. (open_slot (H.seen host.new).present.held ≡ opened) × (opened ≡ open_slot (H.seen host.old).present.held))) }
     ensures pictures { Told H.tells (Since (H.seen host.old) (H.seen host.new) (IsResumed (H.seen host.old))) }

@@ -6,6 +6,7 @@ ghost use Rattle.tl_model.specs.Volume.{at};
 ghost use Rattle.tl_journal_text.specs.Slots.{body_of, open_slot, spare};
 ghost use Rattle.tl_journal_text.specs.Records.{Remove, Write, text_of, write_head};
 ghost use Rattle.tl_journal.specs.States.{IsClean, KeepsTree, Grows};
+ghost use Rattle.tl_journal.specs.Touching.{TouchesOnly};
 
 use crate::names;
 use tl_host::{Failed, Host};
@@ -18,6 +19,7 @@ pub fn start<H: Host>(host: &mut H, slot: Slot) -> Result<(), Failed>
     requires slot { Told H.tells (spare (open_slot (H.seen host.old).present.held) ≡ slot) }
     ensures cause { HasCause (H.seen host.old).faults (H.seen host.new).faults result }
     ensures keeps { Told H.tells (KeepsTree (H.seen host.old) (H.seen host.new)) }
+    ensures touches { Told H.tells (TouchesOnly (λ name. name ≡ body_of slot) (H.seen host.old) (H.seen host.new)) }
     ensures text { Told H.tells (OnOk result (at (H.seen host.new).present.held (body_of slot) ≡ Some [])) }
 {
     host.create(names::body(slot))
@@ -30,6 +32,7 @@ pub fn add<H: Host>(host: &mut H, slot: Slot, bytes: &[u8]) -> Result<(), Failed
     requires there { Told H.tells (IsSome (at (H.seen host.old).present.held (body_of slot))) }
     ensures cause { HasCause (H.seen host.old).faults (H.seen host.new).faults result }
     ensures keeps { Told H.tells (KeepsTree (H.seen host.old) (H.seen host.new)) }
+    ensures touches { Told H.tells (TouchesOnly (λ name. name ≡ body_of slot) (H.seen host.old) (H.seen host.new)) }
     ensures grows { Told H.tells (OnOk result (Grows bytes.now (H.seen host.old) (H.seen host.new))) }
 {
     host.append(names::body(slot), bytes)
@@ -42,6 +45,7 @@ pub fn add_remove<H: Host>(host: &mut H, slot: Slot, path: PathRef<'_>) -> Resul
     requires there { Told H.tells (IsSome (at (H.seen host.old).present.held (body_of slot))) }
     ensures cause { HasCause (H.seen host.old).faults (H.seen host.new).faults result }
     ensures keeps { Told H.tells (KeepsTree (H.seen host.old) (H.seen host.new)) }
+    ensures touches { Told H.tells (TouchesOnly (λ name. name ≡ body_of slot) (H.seen host.old) (H.seen host.new)) }
     ensures grows { Told H.tells (OnOk result (Grows (text_of (Remove path.entry)) (H.seen host.old) (H.seen host.new))) }
 {
     let head = Head::remove(path);
@@ -60,6 +64,7 @@ pub fn add_head<H: Host>(
     requires there { Told H.tells (IsSome (at (H.seen host.old).present.held (body_of slot))) }
     ensures cause { HasCause (H.seen host.old).faults (H.seen host.new).faults result }
     ensures keeps { Told H.tells (KeepsTree (H.seen host.old) (H.seen host.new)) }
+    ensures touches { Told H.tells (TouchesOnly (λ name. name ≡ body_of slot) (H.seen host.old) (H.seen host.new)) }
     ensures grows { Told H.tells (OnOk result (Grows (write_head path.entry size) (H.seen host.old) (H.seen host.new))) }
 {
     let head = Head::write(path, size);
@@ -78,6 +83,7 @@ pub fn add_write<H: Host>(
     requires there { Told H.tells (IsSome (at (H.seen host.old).present.held (body_of slot))) }
     ensures cause { HasCause (H.seen host.old).faults (H.seen host.new).faults result }
     ensures keeps { Told H.tells (KeepsTree (H.seen host.old) (H.seen host.new)) }
+    ensures touches { Told H.tells (TouchesOnly (λ name. name ≡ body_of slot) (H.seen host.old) (H.seen host.new)) }
     ensures grows { Told H.tells (OnOk result (Grows (text_of (Write path.entry bytes.now)) (H.seen host.old) (H.seen host.new))) }
     ensures size { length bytes.now < 2 ^ 64 }
 {

@@ -2,10 +2,12 @@
 ghost use Rattle.std.specs.Prelude.{◌≡◌, ◌≤◌, ◌+◌, [], ◌∷◌, ◌++◌, true, IfOk, IfErr, OnOk, Some, None};
 ghost use Rattle.tl_model.specs.Causes.{Rose};
 ghost use Rattle.tl_model.specs.Seen.{Told, Since};
+ghost use Rattle.tl_model.specs.Volume.{at};
 ghost use Rattle.tl_journal_text.specs.Stand.{stand, tree_of, Stays, IsBeforeOrAfter};
 ghost use Rattle.tl_journal_text.specs.Records.{Remove, Write, is_outside, after};
 ghost use Rattle.tl_journal_text.specs.Slots.{open_slot};
-ghost use Rattle.tl_journal.specs.States.{IsClean, staged};
+ghost use Rattle.tl_journal.specs.States.{IsClean, IsStaged, IsCommitted, IsRested, IsPending, pending, spare_body, staged};
+ghost use Rattle.tl_journal.specs.Touching.{TouchesOnly};
 
 use crate::lost::{HostFault, Lost};
 use crate::{gate, resume, staging};
@@ -114,20 +116,26 @@ impl<H: Host> Clean<H> {
         self.host
     }
 
-    /// The volume stands for its tree, and so does each picture that a stop may leave now.
+    /// The volume stands for its tree, and so does each picture that a stop may leave now. The gate isn't touched, nor is
+    /// the body at which it is open, whose records change nothing.
     pub fn stands(&self)
         ensures tree { Told H.tells (stand self.now.present.held ≡ Some (tree_of self.now.present.held)) }
         ensures stays { Told H.tells (Stays self.now self.now) }
+        ensures rests { Told H.tells (IsClean self.now.present) }
     {
         let _ = &self.host;
     }
 
-    /// Begins a change. `HostFault` comes only where the host's faults rose.
+    /// Begins a change. It makes the spare slot's body empty. It touches that body alone, and so does each call
+    /// that stages. `HostFault` comes only where the host's faults rose.
     pub fn stage(self) -> Result<Staging<H>, Lost<H, HostFault>>
         ensures empty { Told H.tells (IfOk result (λ staging. staged staging ≡ [])) }
+        ensures spare { Told H.tells (IfOk result (λ staging. at staging.present.held (spare_body staging.present.held) ≡ Some [])) }
         ensures tree { Told H.tells (IfOk result (λ staging. tree_of staging.present.held ≡ tree_of self.present.held)) }
         ensures stays { Told H.tells (IfOk result (λ staging. Stays self staging)) }
         ensures stays_err { Told H.tells (IfErr result (λ lost. Stays self (H.seen lost.host))) }
+        ensures touches { Told H.tells (IfOk result (λ staging. TouchesOnly (IsStaged (open_slot self.present.held)) self staging)) }
+        ensures touches_err { Told H.tells (IfErr result (λ lost. TouchesOnly (IsStaged (open_slot self.present.held)) self (H.seen lost.host))) }
         ensures syncs { Told H.tells (IfOk result (λ staging. staging.syncs ≡ self.syncs)) }
         ensures syncs_err { Told H.tells (IfErr result (λ lost. (H.seen lost.host).syncs ≡ self.syncs)) }
         ensures later { IfOk result (λ staging. self.faults ≤ staging.faults) }
@@ -146,12 +154,15 @@ impl<H: Host> Clean<H> {
     }
 
     /// Sees to it that nothing is left to carry out after a stop: the gate is closed. Where it is closed already, it does
-    /// nothing; else it syncs twice at most. `HostFault` comes only where the host's faults rose.
+    /// nothing; else it touches the gate and the body at which it isn't open, and syncs twice at most. `HostFault` comes only
+    /// where the host's faults rose.
     pub fn rest(self) -> Result<Clean<H>, Lost<H, HostFault>>
         ensures shut { Told H.tells (IfOk result (λ clean. open_slot clean.present.held ≡ None)) }
         ensures tree { Told H.tells (IfOk result (λ clean. tree_of clean.present.held ≡ tree_of self.present.held)) }
         ensures stays { Told H.tells (IfOk result (λ clean. Stays self clean)) }
         ensures stays_err { Told H.tells (IfErr result (λ lost. Stays self (H.seen lost.host))) }
+        ensures touches { Told H.tells (IfOk result (λ clean. TouchesOnly (IsRested (open_slot self.present.held)) self clean)) }
+        ensures touches_err { Told H.tells (IfErr result (λ lost. TouchesOnly (IsRested (open_slot self.present.held)) self (H.seen lost.host))) }
         ensures syncs { Told H.tells (IfOk result (λ clean. clean.syncs ≤ self.syncs + 2)) }
         ensures syncs_err { Told H.tells (IfErr result (λ lost. (H.seen lost.host).syncs ≤ self.syncs + 2)) }
         ensures later { IfOk result (λ clean. self.faults ≤ clean.faults) }
@@ -190,6 +201,8 @@ impl<H: Host> Staging<H> {
         ensures tree { Told H.tells (IfOk result (λ staging. tree_of staging.present.held ≡ tree_of self.present.held)) }
         ensures stays { Told H.tells (IfOk result (λ staging. Stays self staging)) }
         ensures stays_err { Told H.tells (IfErr result (λ lost. Stays self (H.seen lost.host))) }
+        ensures touches { Told H.tells (IfOk result (λ staging. TouchesOnly (IsStaged (open_slot self.present.held)) self staging)) }
+        ensures touches_err { Told H.tells (IfErr result (λ lost. TouchesOnly (IsStaged (open_slot self.present.held)) self (H.seen lost.host))) }
         ensures syncs { Told H.tells (IfOk result (λ staging. staging.syncs ≡ self.syncs)) }
         ensures syncs_err { Told H.tells (IfErr result (λ lost. (H.seen lost.host).syncs ≡ self.syncs)) }
         ensures later { IfOk result (λ staging. self.faults ≤ staging.faults) }
@@ -215,6 +228,8 @@ impl<H: Host> Staging<H> {
         ensures tree { Told H.tells (IfOk result (λ staging. tree_of staging.present.held ≡ tree_of self.present.held)) }
         ensures stays { Told H.tells (IfOk result (λ staging. Stays self staging)) }
         ensures stays_err { Told H.tells (IfErr result (λ lost. Stays self (H.seen lost.host))) }
+        ensures touches { Told H.tells (IfOk result (λ staging. TouchesOnly (IsStaged (open_slot self.present.held)) self staging)) }
+        ensures touches_err { Told H.tells (IfErr result (λ lost. TouchesOnly (IsStaged (open_slot self.present.held)) self (H.seen lost.host))) }
         ensures syncs { Told H.tells (IfOk result (λ staging. staging.syncs ≡ self.syncs)) }
         ensures syncs_err { Told H.tells (IfErr result (λ lost. (H.seen lost.host).syncs ≡ self.syncs)) }
         ensures later { IfOk result (λ staging. self.faults ≤ staging.faults) }
@@ -234,14 +249,18 @@ impl<H: Host> Staging<H> {
     }
 
     /// Makes the change stable: each picture since the call stands for the tree or for the tree with the records, and from
-    /// the return at `Ok` on for the latter. It syncs twice. `HostFault` comes only where the host's faults rose.
+    /// the return at `Ok` on for the latter. It touches the body that was staged, the gate, and where the gate was closed the
+    /// other body, and syncs twice. `HostFault` comes only where the host's faults rose.
     pub fn commit(self) -> Result<Committed<H>, Lost<H, HostFault>>
         ensures stands { Told H.tells (IfOk result (λ committed. stand committed.present.held ≡ Some (after (staged self) (tree_of self.present.held)))) }
+        ensures records { Told H.tells (IfOk result (λ committed. pending committed.present.held ≡ staged self)) }
         ensures rests { Told H.tells (IfOk result (λ committed. Stays committed committed)) }
         ensures said { Told H.tells (IfOk result (λ committed. committed.present.said ≡ self.present.said)) }
         ensures said_err { Told H.tells (IfErr result (λ lost. (H.seen lost.host).present.said ≡ self.present.said)) }
         ensures pictures { Told H.tells (IfOk result (λ committed. Since self committed (IsBeforeOrAfter (staged self) self))) }
         ensures pictures_err { Told H.tells (IfErr result (λ lost. Since self (H.seen lost.host) (IsBeforeOrAfter (staged self) self))) }
+        ensures touches { Told H.tells (IfOk result (λ committed. TouchesOnly (IsCommitted (open_slot self.present.held)) self committed)) }
+        ensures touches_err { Told H.tells (IfErr result (λ lost. TouchesOnly (IsCommitted (open_slot self.present.held)) self (H.seen lost.host))) }
         ensures syncs { Told H.tells (IfOk result (λ committed. committed.syncs ≤ self.syncs + 2)) }
         ensures syncs_err { Told H.tells (IfErr result (λ lost. (H.seen lost.host).syncs ≤ self.syncs + 2)) }
         ensures later { IfOk result (λ committed. self.faults ≤ committed.faults) }
@@ -264,11 +283,14 @@ impl<H: Host> Staging<H> {
 }
 
 impl<H: Host> Committed<H> {
-    /// Carries out the records in order. It doesn't sync. `HostFault` comes only where the host's faults rose.
+    /// Carries out the records in order. It touches their names alone, and doesn't sync. `HostFault` comes only where the
+    /// host's faults rose.
     pub fn apply(self) -> Result<Applied<H>, Lost<H, HostFault>>
         ensures tree { Told H.tells (IfOk result (λ applied. stand self.present.held ≡ Some (tree_of applied.present.held))) }
         ensures stays { Told H.tells (IfOk result (λ applied. Stays self applied)) }
         ensures stays_err { Told H.tells (IfErr result (λ lost. Stays self (H.seen lost.host))) }
+        ensures touches { Told H.tells (IfOk result (λ applied. TouchesOnly (IsPending self.present.held) self applied)) }
+        ensures touches_err { Told H.tells (IfErr result (λ lost. TouchesOnly (IsPending self.present.held) self (H.seen lost.host))) }
         ensures syncs { Told H.tells (IfOk result (λ applied. applied.syncs ≡ self.syncs)) }
         ensures syncs_err { Told H.tells (IfErr result (λ lost. (H.seen lost.host).syncs ≡ self.syncs)) }
         ensures later { IfOk result (λ applied. self.faults ≤ applied.faults) }

@@ -4,7 +4,9 @@ ghost use Rattle.tl_model.specs.Causes.{Rose};
 ghost use Rattle.tl_model.specs.Seen.{Told};
 ghost use Rattle.tl_journal_text.specs.Stand.{tree_of, Stays};
 ghost use Rattle.tl_journal_text.specs.Records.{Write, is_outside};
-ghost use Rattle.tl_journal.specs.States.{staged, coming};
+ghost use Rattle.tl_journal_text.specs.Slots.{open_slot};
+ghost use Rattle.tl_journal.specs.States.{IsStaged, staged, coming};
+ghost use Rattle.tl_journal.specs.Touching.{TouchesOnly};
 
 use crate::lost::{HostFault, Lost};
 use crate::staging;
@@ -48,6 +50,8 @@ impl<H: Host> Staging<H> {
         ensures tree { Told H.tells (IfOk result (λ writing. tree_of writing.seen.present.held ≡ tree_of self.present.held)) }
         ensures stays { Told H.tells (IfOk result (λ writing. Stays self writing.seen)) }
         ensures stays_err { Told H.tells (IfErr result (λ lost. Stays self (H.seen lost.host))) }
+        ensures touches { Told H.tells (IfOk result (λ writing. TouchesOnly (IsStaged (open_slot self.present.held)) self writing.seen)) }
+        ensures touches_err { Told H.tells (IfErr result (λ lost. TouchesOnly (IsStaged (open_slot self.present.held)) self (H.seen lost.host))) }
         ensures syncs { Told H.tells (IfOk result (λ writing. writing.seen.syncs ≡ self.syncs)) }
         ensures syncs_err { Told H.tells (IfErr result (λ lost. (H.seen lost.host).syncs ≡ self.syncs)) }
         ensures later { IfOk result (λ writing. self.faults ≤ writing.seen.faults) }
@@ -80,6 +84,8 @@ impl<H: Host> Writing<H> {
         ensures tree { Told H.tells (IfOk result (λ writing. tree_of writing.seen.present.held ≡ tree_of self.seen.present.held)) }
         ensures stays { Told H.tells (IfOk result (λ writing. Stays self.seen writing.seen)) }
         ensures stays_err { Told H.tells (IfErr result (λ lost. Stays self.seen (H.seen lost.host))) }
+        ensures touches { Told H.tells (IfOk result (λ writing. TouchesOnly (IsStaged (open_slot self.seen.present.held)) self.seen writing.seen)) }
+        ensures touches_err { Told H.tells (IfErr result (λ lost. TouchesOnly (IsStaged (open_slot self.seen.present.held)) self.seen (H.seen lost.host))) }
         ensures syncs { Told H.tells (IfOk result (λ writing. writing.seen.syncs ≡ self.seen.syncs)) }
         ensures syncs_err { Told H.tells (IfErr result (λ lost. (H.seen lost.host).syncs ≡ self.seen.syncs)) }
         ensures later { IfOk result (λ writing. self.seen.faults ≤ writing.seen.faults) }

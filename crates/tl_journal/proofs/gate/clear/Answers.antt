@@ -4,6 +4,7 @@ use Rattle.std.specs.Result.{is_ok}
 use Rattle.std.proofs.lemmas.Result.{on_ok_weaker}
 use Rattle.tl_model.specs.Volume.{Name}
 use Rattle.tl_model.specs.Seen.{Changes}
+use Rattle.tl_journal.specs.Touching.{only_start, only_change}
 use Rattle.tl_journal.proofs.Live.{tree_start, tree_change}
 use Rattle.tl_journal_text.proofs.Acts.{same_but_join}
 use Rattle.tl_journal.proofs.Staged.{made_empty, appended}
@@ -43,3 +44,12 @@ pub returns-clause-cleared : goal.returns-clause-cleared
 returns-clause-cleared g c t =
     on_ok_weaker c.append.result (λ added. only_end _ (appended _ _ c.body-2.result _ (69 ∷ []) c.body-2.ensures added
     ∙ ap (λ (o : Option (List ℕ)). Some (unwrap_or o [] ++ 69 ∷ [])) (made_empty _ _ c.body.result _ c.body.ensures (c.in_ok-create.ensures.created t)))) (c.append.ensures.added t)
+
+pub returns-in_err-create-clause-touches : goal.returns-in_err-create-clause-touches
+returns-in_err-create-clause-touches g c t = only_change _ _ _ _ (is_ok c.create.result) c.body.result c.body.ensures (only_start _ _) (c.create.ensures.change t)
+
+pub returns-clause-touches : goal.returns-clause-touches
+returns-clause-touches g c t =
+    only_change _ _ _ _ (is_ok c.append.result) c.body-2.result c.body-2.ensures
+    (only_change _ _ _ _ (is_ok c.create.result) c.body.result c.body.ensures (only_start _ _) (c.create.ensures.change t))
+    (c.append.ensures.change t)

@@ -1,4 +1,4 @@
-use Rattle.std.proofs.Common.{◌≡◌, ◌∙◌, ap, subst, Some, []}
+use Rattle.std.proofs.Common.{◌≡◌, ◌∙◌, ap, subst, true, Some, []}
 use Rattle.std.specs.Result.{is_ok}
 use Rattle.tl_model.specs.Volume.{Volume}
 use Rattle.tl_model.specs.Pictures.{after_sync}
@@ -7,11 +7,12 @@ use Rattle.tl_journal_text.specs.Slots.{body_of, opens}
 use Rattle.tl_journal_text.specs.Body.{records_of}
 use Rattle.tl_journal_text.specs.Stand.{bytes_at, tree_of}
 use Rattle.tl_journal.specs.States.{pending}
+use Rattle.tl_journal.specs.Touching.{only_sync, only_join}
 use Rattle.tl_journal.proofs.Live.{keeps_tree}
 use Rattle.tl_journal.proofs.Gates.{between_stays, shut_clean, again}
 use Rattle.tl_journal.proofs.Pieces.{on_ok_both}
 use Rattle.std.proofs.lemmas.Result.{on_ok_weaker}
-use Rattle.tl_journal.proofs.Commits.{close_start, free_other}
+use Rattle.tl_journal.proofs.Commits.{close_start, free_other, rest_body, rest_gate}
 use Rattle.tl_journal.proofs.gate.close.Goals as goal
 
 pub clear-requires-clause-free : goal.clear-requires-clause-free
@@ -62,3 +63,16 @@ returns-clause-shut g c t = on_ok_weaker c.remove.result (λ gone. ap opens gone
 
 pub returns-clause-clean : goal.returns-clause-clean
 returns-clause-clean g c t = on_ok_both c.remove.result _ _ _ (λ gone settled. shut_clean (g.H.Host.seen c.remove.new.host) (ap opens gone) settled) (c.remove.ensures.gone t) (c.remove.ensures.settled t)
+
+pub returns-in_err-clear-clause-touches : goal.returns-in_err-clear-clause-touches
+returns-in_err-clear-clause-touches g c t = rest_body _ _ c.args.slot c.other.result c.other.ensures (c.clear.ensures.touches t)
+
+pub returns-in_err-sync-clause-touches : goal.returns-in_err-sync-clause-touches
+returns-in_err-sync-clause-touches g c t =
+    only_sync _ _ _ _ (is_ok c.sync.result) (rest_body _ _ c.args.slot c.other.result c.other.ensures (c.clear.ensures.touches t)) (c.sync.ensures.sync t)
+
+pub returns-clause-touches : goal.returns-clause-touches
+returns-clause-touches g c t =
+    only_join _ _ _ _
+    (only_sync _ _ _ _ true (rest_body _ _ c.args.slot c.other.result c.other.ensures (c.clear.ensures.touches t)) (c.in_ok-sync.ensures.sync t))
+    (rest_gate _ _ c.args.slot (c.remove.ensures.touches t))

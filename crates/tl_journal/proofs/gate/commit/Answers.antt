@@ -1,12 +1,14 @@
-use Rattle.std.proofs.Common.{◌∙◌, ap, sym, subst, Some}
+use Rattle.std.proofs.Common.{◌∙◌, ap, sym, subst, true, Some}
 use Rattle.std.specs.Result.{is_ok}
 use Rattle.tl_model.specs.Pictures.{after_sync}
 use Rattle.tl_journal_text.specs.declared.slot.Slot.{Slot}
 use Rattle.tl_journal_text.specs.Slots.{spare}
 use Rattle.tl_journal.specs.States.{Between, staged}
+use Rattle.tl_journal.specs.Touching.{only_sync, only_join}
+use Rattle.std.proofs.lemmas.Result.{on_ok_weaker}
 use Rattle.tl_journal.proofs.Live.{keeps_clean, keeps_open, tree_join}
-use Rattle.tl_journal.proofs.Gates.{pictures_before, opened}
-use Rattle.tl_journal.proofs.Commits.{commit_start}
+use Rattle.tl_journal.proofs.Gates.{pictures_before, opened, opened_pending}
+use Rattle.tl_journal.proofs.Commits.{commit_start, commit_staged, commit_other, commit_gate}
 use Rattle.tl_journal.proofs.Staged.{staging_there}
 use Rattle.tl_journal.proofs.Pieces.{on_ok_both}
 use Rattle.tl_journal.proofs.gate.commit.Goals as goal
@@ -88,3 +90,26 @@ returns-clause-stands g c t =
     let start = commit_start base (s c.add.new.host) (s c.settle_other.new.host) (s c.sync.new.self) c.args.opened (c.requires.staging t) (c.requires.opened t) (c.add.ensures.keeps t) (c.in_ok-add.ensures.grows t) (c.settle_other.ensures.keeps t) (c.settle_other.ensures.others t) still (c.in_ok-sync.ensures.sync t) in
     let there = subst (λ (x : Slot). Between base x (staged base) still.0 (s c.sync.new.self)) (sym c.spare-slot.ensures) start in
     on_ok_both c.open.result _ _ _ (λ byte settled. (opened base (s c.open.new.host) c.spare-slot.result (staged base) still.0 (c.open.ensures.between t base (staged base) still.0 there) (c.requires.staging t).fits byte settled).2) (c.open.ensures.byte t) (c.open.ensures.settled t)
+
+pub returns-clause-records : goal.returns-clause-records
+returns-clause-records g c t =
+    let s = g.H.Host.seen in
+    let base = s c.args.host.now in
+    let still = c.in_ok-settle_other.ensures.still t in
+    let start = commit_start base (s c.add.new.host) (s c.settle_other.new.host) (s c.sync.new.self) c.args.opened (c.requires.staging t) (c.requires.opened t) (c.add.ensures.keeps t) (c.in_ok-add.ensures.grows t) (c.settle_other.ensures.keeps t) (c.settle_other.ensures.others t) still (c.in_ok-sync.ensures.sync t) in
+    let there = subst (λ (x : Slot). Between base x (staged base) still.0 (s c.sync.new.self)) (sym c.spare-slot.ensures) start in
+    on_ok_weaker c.open.result (λ byte. opened_pending base (s c.open.new.host) c.spare-slot.result (staged base) still.0 (c.open.ensures.between t base (staged base) still.0 there) byte) (c.open.ensures.byte t)
+
+pub returns-in_err-add-clause-touches : goal.returns-in_err-add-clause-touches
+returns-in_err-add-clause-touches g c t = commit_staged _ _ c.args.opened c.spare-slot.result c.spare-slot.ensures (c.add.ensures.touches t)
+
+pub returns-in_err-settle_other-clause-touches : goal.returns-in_err-settle_other-clause-touches
+returns-in_err-settle_other-clause-touches g c t = only_join _ _ _ _ (commit_staged _ _ c.args.opened c.spare-slot.result c.spare-slot.ensures (c.add.ensures.touches t)) (commit_other _ _ c.args.opened (c.settle_other.ensures.touches t))
+
+pub returns-in_err-sync-clause-touches : goal.returns-in_err-sync-clause-touches
+returns-in_err-sync-clause-touches g c t = only_sync _ _ _ _ (is_ok c.sync.result) (only_join _ _ _ _ (commit_staged _ _ c.args.opened c.spare-slot.result c.spare-slot.ensures (c.add.ensures.touches t)) (commit_other _ _ c.args.opened (c.settle_other.ensures.touches t))) (c.sync.ensures.sync t)
+
+pub returns-clause-touches : goal.returns-clause-touches
+returns-clause-touches g c t =
+    only_join _ _ _ _ (only_sync _ _ _ _ true (only_join _ _ _ _ (commit_staged _ _ c.args.opened c.spare-slot.result c.spare-slot.ensures (c.add.ensures.touches t)) (commit_other _ _ c.args.opened (c.settle_other.ensures.touches t))) (c.in_ok-sync.ensures.sync t))
+    (commit_gate _ _ c.args.opened (c.open.ensures.touches t))

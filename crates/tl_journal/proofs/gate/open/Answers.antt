@@ -4,6 +4,7 @@ use Rattle.std.specs.Result.{is_ok}
 use Rattle.tl_model.specs.Volume.{Name, Volume, at}
 use Rattle.tl_model.specs.Seen.{Changes}
 use Rattle.tl_journal_text.specs.Slots.{gate}
+use Rattle.tl_journal.specs.Touching.{only_start, only_change, only_sync}
 use Rattle.tl_journal.proofs.Gates.{between_change, between_sync, settles, on_sync}
 use Rattle.tl_journal.proofs.Staged.{made_empty, appended}
 use Rattle.tl_journal.proofs.gate.open.Goals as goal
@@ -41,3 +42,20 @@ returns-clause-byte g c t =
 
 pub returns-clause-settled : goal.returns-clause-settled
 returns-clause-settled g c t = on_sync c.sync.result _ _ _ (λ sync. settles _ _ sync) (c.sync.ensures.sync t)
+
+pub returns-in_err-create-clause-touches : goal.returns-in_err-create-clause-touches
+returns-in_err-create-clause-touches g c t = only_change _ _ _ _ (is_ok c.create.result) c.gate.result c.gate.ensures (only_start _ _) (c.create.ensures.change t)
+
+pub returns-in_err-append-clause-touches : goal.returns-in_err-append-clause-touches
+returns-in_err-append-clause-touches g c t =
+    only_change _ _ _ _ (is_ok c.append.result) c.gate-2.result c.gate-2.ensures
+    (only_change _ _ _ _ (is_ok c.create.result) c.gate.result c.gate.ensures (only_start _ _) (c.create.ensures.change t))
+    (c.append.ensures.change t)
+
+pub returns-clause-touches : goal.returns-clause-touches
+returns-clause-touches g c t =
+    only_sync _ _ _ _ (is_ok c.sync.result)
+    (only_change _ _ _ _ (is_ok c.append.result) c.gate-2.result c.gate-2.ensures
+    (only_change _ _ _ _ (is_ok c.create.result) c.gate.result c.gate.ensures (only_start _ _) (c.create.ensures.change t))
+    (c.append.ensures.change t))
+    (c.sync.ensures.sync t)

@@ -4,6 +4,7 @@ use Rattle.std.specs.Result.{is_ok}
 use Rattle.tl_model.specs.Volume.{Name, Volume, at, at-remove_here}
 use Rattle.tl_model.specs.Seen.{Changes}
 use Rattle.tl_journal_text.specs.Slots.{gate}
+use Rattle.tl_journal.specs.Touching.{only_start, only_change, only_sync}
 use Rattle.tl_journal.proofs.Gates.{between_change, between_sync, settles, on_sync}
 use Rattle.tl_journal.proofs.gate.remove.Goals as goal
 
@@ -24,3 +25,12 @@ returns-clause-gone g c t =
 
 pub returns-clause-settled : goal.returns-clause-settled
 returns-clause-settled g c t = on_sync c.sync.result _ _ _ (λ sync. settles _ _ sync) (c.sync.ensures.sync t)
+
+pub returns-in_err-remove-clause-touches : goal.returns-in_err-remove-clause-touches
+returns-in_err-remove-clause-touches g c t = only_change _ _ _ _ (is_ok c.remove.result) c.gate.result c.gate.ensures (only_start _ _) (c.remove.ensures.change t)
+
+pub returns-clause-touches : goal.returns-clause-touches
+returns-clause-touches g c t =
+    only_sync _ _ _ _ (is_ok c.sync.result)
+    (only_change _ _ _ _ (is_ok c.remove.result) c.gate.result c.gate.ensures (only_start _ _) (c.remove.ensures.change t))
+    (c.sync.ensures.sync t)

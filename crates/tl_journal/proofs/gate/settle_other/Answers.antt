@@ -4,8 +4,9 @@ use Rattle.tl_model.specs.Volume.{SameBut}
 use Rattle.tl_journal_text.specs.declared.slot.Slot.{Slot}
 use Rattle.tl_journal_text.specs.declared.slot.Slot.TheVariants.{Two}
 use Rattle.tl_journal_text.specs.Slots.{body_of, spare, other}
+use Rattle.tl_journal.specs.Touching.{only_start}
 use Rattle.tl_journal.proofs.Live.{tree_start, free_shut}
-use Rattle.tl_journal.proofs.Commits.{Still, still_open}
+use Rattle.tl_journal.proofs.Commits.{Still, still_open, settles_two}
 use Rattle.tl_journal.proofs.gate.settle_other.Goals as goal
 
 pub returns-in-Some-clause-keeps : goal.returns-in-Some-clause-keeps
@@ -28,3 +29,9 @@ pub returns-in-None-clause-still : goal.returns-in-None-clause-still
 returns-in-None-clause-still g c t =
     let s = g.H.Host.seen in
     on_ok_weaker c.clear.result (λ cleared. subst (λ (o : Option Slot). Still (other (spare o)) (s c.args.host.now).present.held (s c.clear.new.host).present.held) (sym c.in-None.is) ([], cleared, refl)) (c.clear.ensures.cleared t)
+
+pub returns-in-Some-clause-touches : goal.returns-in-Some-clause-touches
+returns-in-Some-clause-touches g c t = only_start _ _
+
+pub returns-in-None-clause-touches : goal.returns-in-None-clause-touches
+returns-in-None-clause-touches g c t = settles_two _ _ c.args.opened c.in-None.is (c.clear.ensures.touches t)

@@ -4,19 +4,18 @@ use Rattle.tl_model.specs.Seen.{Moment}
 use Rattle.tl_journal_text.specs.declared.slot.Slot.{Slot}
 use Rattle.tl_journal_text.specs.Stand.{bytes_at}
 use Rattle.tl_journal.specs.Reading.{body_at, bytes_from}
-use Rattle.tl_journal.proofs.Live.{keeps_quiet}
 use Rattle.tl_journal.proofs.Pieces.{filled, same_body_at}
-use Rattle.tl_journal.proofs.Doing.{keeps_record}
+use Rattle.tl_journal.proofs.Doing.{redoes_quiet, redoes_record}
 use Rattle.tl_journal.proofs.redo.copy_piece.Goals as goal
 
 pub returns-in_err-reach-clause-progress : goal.returns-in_err-reach-clause-progress
-returns-in_err-reach-clause-progress g c t base among far = keeps_quiet base _ _ far (c.reach.ensures.quiet t)
+returns-in_err-reach-clause-progress g c t base among far = redoes_quiet base _ _ far (c.reach.ensures.quiet t)
 
 pub returns-in_err-append-clause-progress : goal.returns-in_err-append-clause-progress
-returns-in_err-append-clause-progress g c t base among far = keeps_record base _ _ _ _ among (keeps_quiet base _ _ far (c.reach.ensures.quiet t)) (c.append.ensures.change t)
+returns-in_err-append-clause-progress g c t base among far = redoes_record base _ _ _ _ among (redoes_quiet base _ _ far (c.reach.ensures.quiet t)) (c.append.ensures.change t)
 
 pub returns-clause-progress : goal.returns-clause-progress
-returns-clause-progress g c t base among far = keeps_record base _ _ _ _ among (keeps_quiet base _ _ far (c.reach.ensures.quiet t)) (c.append.ensures.change t)
+returns-clause-progress g c t base among far = redoes_record base _ _ _ _ among (redoes_quiet base _ _ far (c.reach.ensures.quiet t)) (c.append.ensures.change t)
 
 pub returns-clause-copied : goal.returns-clause-copied
 returns-clause-copied g c t =

@@ -8,32 +8,31 @@ use Rattle.tl_journal.specs.Items.{IsItem, IsInside}
 use Rattle.tl_journal.specs.Acting.{MayAct}
 use Rattle.tl_journal.specs.Reading.{body_at}
 use Rattle.tl_journal.specs.declared.fields.Item.{Item}
-use Rattle.tl_journal.proofs.Live.{keeps_quiet}
-use Rattle.tl_journal.proofs.Doing.{keeps_record, target_apart, part_apart}
+use Rattle.tl_journal.proofs.Doing.{redoes_quiet, redoes_record, target_apart, part_apart}
 use Rattle.tl_journal.proofs.redo.step.Goals as goal
 
 pub returns-in_err-next-clause-progress : goal.returns-in_err-next-clause-progress
-returns-in_err-next-clause-progress g c t base far may = keeps_quiet base _ _ far (c.next.ensures.quiet t)
+returns-in_err-next-clause-progress g c t base far may = redoes_quiet base _ _ far (c.next.ensures.quiet t)
 
 pub returns-in-End-clause-progress : goal.returns-in-End-clause-progress
-returns-in-End-clause-progress g c t base far may = keeps_quiet base _ _ far (c.next.ensures.quiet t)
+returns-in-End-clause-progress g c t base far may = redoes_quiet base _ _ far (c.next.ensures.quiet t)
 
 pub returns-in-Faulty-clause-progress : goal.returns-in-Faulty-clause-progress
-returns-in-Faulty-clause-progress g c t base far may = keeps_quiet base _ _ far (c.next.ensures.quiet t)
+returns-in-Faulty-clause-progress g c t base far may = redoes_quiet base _ _ far (c.next.ensures.quiet t)
 
 pub returns-in_err-remove-in-Remove-clause-progress : goal.returns-in_err-remove-in-Remove-clause-progress
 returns-in_err-remove-in-Remove-clause-progress g c t base far may =
     let bytes = body_at c.args.body.now.slot (g.H.Host.seen c.args.host.now) in
     let is = subst (λ (i : Item). IsItem bytes c.args.from c.next.new.name i) c.in-Remove.is (c.in_ok-next.ensures.item t) in
     let among = subst (λ (n : Name). IsAmong n (pending base.present.held)) (sym c.target.ensures) (subst (λ (x : Next). MayAct base x) is may) in
-    keeps_record base _ _ _ _ among (keeps_quiet base _ _ far (c.next.ensures.quiet t)) (c.remove.ensures.change t)
+    redoes_record base _ _ _ _ among (redoes_quiet base _ _ far (c.next.ensures.quiet t)) (c.remove.ensures.change t)
 
 pub returns-in_ok-remove-in-Remove-clause-progress : goal.returns-in_ok-remove-in-Remove-clause-progress
 returns-in_ok-remove-in-Remove-clause-progress g c t base far may =
     let bytes = body_at c.args.body.now.slot (g.H.Host.seen c.args.host.now) in
     let is = subst (λ (i : Item). IsItem bytes c.args.from c.next.new.name i) c.in-Remove.is (c.in_ok-next.ensures.item t) in
     let among = subst (λ (n : Name). IsAmong n (pending base.present.held)) (sym c.target.ensures) (subst (λ (x : Next). MayAct base x) is may) in
-    keeps_record base _ _ _ _ among (keeps_quiet base _ _ far (c.next.ensures.quiet t)) (c.remove.ensures.change t)
+    redoes_record base _ _ _ _ among (redoes_quiet base _ _ far (c.next.ensures.quiet t)) (c.remove.ensures.change t)
 
 pub returns-in_ok-remove-in-Remove-clause-part : goal.returns-in_ok-remove-in-Remove-clause-part
 returns-in_ok-remove-in-Remove-clause-part g c t =
@@ -52,11 +51,11 @@ returns-in_err-write-in-Write-clause-progress g c t base far may =
     let bytes = body_at c.args.body.now.slot (g.H.Host.seen c.args.host.now) in
     let is = subst (λ (i : Item). IsItem bytes c.args.from c.next.new.name i) c.in-Write.is (c.in_ok-next.ensures.item t) in
     let among = subst (λ (n : Name). IsAmong n (pending base.present.held)) (sym c.target-in-Write.ensures) (subst (λ (x : Next). MayAct base x) is may) in
-    c.write.ensures.progress t base among (keeps_quiet base _ _ far (c.next.ensures.quiet t))
+    c.write.ensures.progress t base among (redoes_quiet base _ _ far (c.next.ensures.quiet t))
 
 pub returns-in_ok-write-in-Write-clause-progress : goal.returns-in_ok-write-in-Write-clause-progress
 returns-in_ok-write-in-Write-clause-progress g c t base far may =
     let bytes = body_at c.args.body.now.slot (g.H.Host.seen c.args.host.now) in
     let is = subst (λ (i : Item). IsItem bytes c.args.from c.next.new.name i) c.in-Write.is (c.in_ok-next.ensures.item t) in
     let among = subst (λ (n : Name). IsAmong n (pending base.present.held)) (sym c.target-in-Write.ensures) (subst (λ (x : Next). MayAct base x) is may) in
-    c.write.ensures.progress t base among (keeps_quiet base _ _ far (c.next.ensures.quiet t))
+    c.write.ensures.progress t base among (redoes_quiet base _ _ far (c.next.ensures.quiet t))

@@ -15,15 +15,15 @@ loop-rest-init g c = record {
   doing = λ t. doing_start _ _ (c.requires.live t) (c.requires.opened t);
 }
 
-pub returns-in_err-rest-clause-keeps : goal.returns-in_err-rest-clause-keeps
-returns-in_err-rest-clause-keeps g c t =
+pub returns-in_err-rest-clause-redoes : goal.returns-in_err-rest-clause-redoes
+returns-in_err-rest-clause-redoes g c t =
     let s = g.H.Host.seen in
     let doing = c.loop-rest.invariant.doing t in
     let may = subst (λ (x : Slot). MayAct (s c.args.host.now) (next c.loop-rest.from (drop c.loop-rest.from (body_at x (s c.loop-rest.host))))) (sym c.loop-rest.invariant.same.slot) (doing_may _ _ _ c.loop-rest.from doing) in
     c.step.ensures.progress t _ doing.progress may
 
-pub returns-in-None-clause-keeps : goal.returns-in-None-clause-keeps
-returns-in-None-clause-keeps g c t =
+pub returns-in-None-clause-redoes : goal.returns-in-None-clause-redoes
+returns-in-None-clause-redoes g c t =
     let s = g.H.Host.seen in
     let doing = c.loop-rest.invariant.doing t in
     let may = subst (λ (x : Slot). MayAct (s c.args.host.now) (next c.loop-rest.from (drop c.loop-rest.from (body_at x (s c.loop-rest.host))))) (sym c.loop-rest.invariant.same.slot) (doing_may _ _ _ c.loop-rest.from doing) in
@@ -60,4 +60,4 @@ returns-in-None-clause-clean g c t =
     let progress = c.step.ensures.progress t (s c.args.host.now) doing.progress may in
     let acted = subst (λ (o : Option ℕ). Acted (body_at c.loop-rest.body.slot (s c.loop-rest.host)) c.loop-rest.from (s c.loop-rest.host).present.held (s c.step.new.host).present.held o) c.in-None.is (c.in_ok-rest.ensures.acted t) in
     let stops = subst (λ (x : Slot). Acted (body_at x (s c.loop-rest.host)) c.loop-rest.from (s c.loop-rest.host).present.held (s c.step.new.host).present.held None) inv.same.slot acted in
-    doing_done (s c.args.host.now) (s c.loop-rest.host) (s c.step.new.host) c.args.body.now.slot c.loop-rest.from doing stops.0 stops.1 progress
+    doing_done (s c.args.host.now) (s c.loop-rest.host) (s c.step.new.host) c.args.body.now.slot c.loop-rest.from doing stops.0 stops.1 progress.keeps

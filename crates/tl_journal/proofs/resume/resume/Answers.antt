@@ -1,8 +1,11 @@
-use Rattle.std.proofs.Common.{◌∙◌, ap, sym, true}
+use Rattle.std.proofs.Common.{◌≡◌, ◌∙◌, ap, sym, subst, true}
+use Rattle.std.specs.Result.{is_ok}
 use Rattle.tl_model.specs.Volume.{Volume}
 use Rattle.tl_model.specs.Seen.{Moment}
 use Rattle.tl_model.specs.Pictures.{after_sync, after_quiet}
 use Rattle.tl_journal_text.specs.Stand.{stand}
+use Rattle.tl_journal.specs.States.{IsPending}
+use Rattle.tl_journal.specs.Touching.{TouchesOnly, only_start, only_sync, only_quiet, only_join}
 use Rattle.tl_journal.proofs.Gates.{settles, shut_clean}
 use Rattle.tl_journal.proofs.Resumed.{resumed_start, resumed_more, settled_quiet, open_quiet, stays_stand}
 use Rattle.tl_journal.proofs.resume.resume.Goals as goal
@@ -43,3 +46,44 @@ pub returns-in-None-clause-clean : goal.returns-in-None-clause-clean
 returns-in-None-clause-clean g c t =
     shut_clean (g.H.Host.seen c.opened.new.host) (open_quiet (g.H.Host.seen c.sync.new.self) (g.H.Host.seen c.opened.new.host) _ (c.opened.ensures.quiet t) (sym (c.in_ok-opened.ensures.opened t) ∙ c.in-None.is))
     (settled_quiet (g.H.Host.seen c.sync.new.self) (g.H.Host.seen c.opened.new.host) (settles _ _ (c.in_ok-sync.ensures.sync t)) (c.opened.ensures.quiet t))
+
+pub returns-in_err-opened-clause-kept : goal.returns-in_err-opened-clause-kept
+returns-in_err-opened-clause-kept g c t none = ap (λ (m : Moment). m.held) (c.opened.ensures.quiet t).present ∙ (c.in_ok-sync.ensures.sync t).held
+
+pub returns-in_err-finish-in-Some-clause-kept : goal.returns-in_err-finish-in-Some-clause-kept
+returns-in_err-finish-in-Some-clause-kept g c t none =
+    let s = g.H.Host.seen in
+    let before : (s c.opened.new.host).present.held ≡ (s c.args.host.now).present.held = ap (λ (m : Moment). m.held) (c.opened.ensures.quiet t).present ∙ (c.in_ok-sync.ensures.sync t).held in
+    c.finish.ensures.kept t (ap (λ (v : Volume). stand v) before ∙ none) ∙ before
+
+pub returns-in_ok-finish-in-Some-clause-kept : goal.returns-in_ok-finish-in-Some-clause-kept
+returns-in_ok-finish-in-Some-clause-kept g c t none =
+    let s = g.H.Host.seen in
+    let before : (s c.opened.new.host).present.held ≡ (s c.args.host.now).present.held = ap (λ (m : Moment). m.held) (c.opened.ensures.quiet t).present ∙ (c.in_ok-sync.ensures.sync t).held in
+    c.finish.ensures.kept t (ap (λ (v : Volume). stand v) before ∙ none) ∙ before
+
+pub returns-in-None-clause-kept : goal.returns-in-None-clause-kept
+returns-in-None-clause-kept g c t none = ap (λ (m : Moment). m.held) (c.opened.ensures.quiet t).present ∙ (c.in_ok-sync.ensures.sync t).held
+
+pub returns-in_err-sync-clause-touches : goal.returns-in_err-sync-clause-touches
+returns-in_err-sync-clause-touches g c t = only_sync _ _ _ _ (is_ok c.sync.result) (only_start _ _) (c.sync.ensures.sync t)
+
+pub returns-in_err-opened-clause-touches : goal.returns-in_err-opened-clause-touches
+returns-in_err-opened-clause-touches g c t = only_quiet _ _ _ _ (only_sync _ _ _ _ true (only_start _ _) (c.in_ok-sync.ensures.sync t)) (c.opened.ensures.quiet t)
+
+pub returns-in-None-clause-touches : goal.returns-in-None-clause-touches
+returns-in-None-clause-touches g c t = only_quiet _ _ _ _ (only_sync _ _ _ _ true (only_start _ _) (c.in_ok-sync.ensures.sync t)) (c.opened.ensures.quiet t)
+
+pub returns-in_err-finish-in-Some-clause-touches : goal.returns-in_err-finish-in-Some-clause-touches
+returns-in_err-finish-in-Some-clause-touches g c t =
+    let s = g.H.Host.seen in
+    let before : (s c.opened.new.host).present.held ≡ (s c.args.host.now).present.held = ap (λ (m : Moment). m.held) (c.opened.ensures.quiet t).present ∙ (c.in_ok-sync.ensures.sync t).held in
+    let near = subst (λ (v : Volume). TouchesOnly (IsPending v) (s c.opened.new.host) (s c.finish.new.host)) before (c.finish.ensures.touches t) in
+    only_join _ _ _ _ (only_quiet _ _ _ _ (only_sync _ _ _ _ true (only_start _ _) (c.in_ok-sync.ensures.sync t)) (c.opened.ensures.quiet t)) near
+
+pub returns-in_ok-finish-in-Some-clause-touches : goal.returns-in_ok-finish-in-Some-clause-touches
+returns-in_ok-finish-in-Some-clause-touches g c t =
+    let s = g.H.Host.seen in
+    let before : (s c.opened.new.host).present.held ≡ (s c.args.host.now).present.held = ap (λ (m : Moment). m.held) (c.opened.ensures.quiet t).present ∙ (c.in_ok-sync.ensures.sync t).held in
+    let near = subst (λ (v : Volume). TouchesOnly (IsPending v) (s c.opened.new.host) (s c.finish.new.host)) before (c.finish.ensures.touches t) in
+    only_join _ _ _ _ (only_quiet _ _ _ _ (only_sync _ _ _ _ true (only_start _ _) (c.in_ok-sync.ensures.sync t)) (c.opened.ensures.quiet t)) near

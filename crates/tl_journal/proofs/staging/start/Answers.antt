@@ -3,6 +3,7 @@ use Rattle.std.specs.Result.{is_ok}
 use Rattle.std.proofs.lemmas.Result.{on_ok_weaker}
 use Rattle.tl_model.specs.Volume.{Name}
 use Rattle.tl_model.specs.Seen.{Changes}
+use Rattle.tl_journal.specs.Touching.{only_start, only_change}
 use Rattle.tl_journal.proofs.Staged.{spare_change, made_empty}
 use Rattle.tl_journal.proofs.staging.start.Goals as goal
 
@@ -13,3 +14,6 @@ returns-clause-keeps g c t =
 
 pub returns-clause-text : goal.returns-clause-text
 returns-clause-text g c t = on_ok_weaker c.create.result (λ made. made_empty _ _ c.body.result _ c.body.ensures made) (c.create.ensures.created t)
+
+pub returns-clause-touches : goal.returns-clause-touches
+returns-clause-touches g c t = only_change _ _ _ _ (is_ok c.create.result) c.body.result c.body.ensures (only_start _ _) (c.create.ensures.change t)
