@@ -2,6 +2,7 @@ pub mod Absences
 pub mod AfterParts
 pub mod Members
 pub mod Order
+pub mod Outside
 pub mod Owning
 pub mod Performs
 pub mod Runs

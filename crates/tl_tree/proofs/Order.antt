@@ -16,7 +16,7 @@ use Rattle.tl_tree.specs.Nexts.{behind, IsNextFrom, IsFrom}
 use Rattle.tl_tree.specs.Names.{at-tree_of-outside, at-tree_of-ours}
 
 -- the journal's folder
-abbrev folder : List ℕ
+abbrev pub folder : List ℕ
 folder = codes "tlpkg/journal"
 
 ranked_by : {G : Type 0} → (a b : ℕ) → (nat_cmp a b ≡ Less → a < b → G) → (nat_cmp a b ≡ Equal → a ≡ b → G) → (nat_cmp a b ≡ Greater → b < a → G) → G
@@ -48,7 +48,7 @@ between (c ∷ p) rest (y ∷ m) low other high = ranked_by c y
     (λ is down. absurd (cc (ap (λ o. ordering_then o (slice_cmp nat_cmp (p ++ 47 ∷ rest) m)) is)))
 
 -- a name below the folder
-ours_front : (name : Name) → is_ours name ≡ true → name ≡ folder ++ 47 ∷ drop 14 name
+pub ours_front : (name : Name) → is_ours name ≡ true → name ≡ folder ++ 47 ∷ drop 14 name
 ours_front name ours = sym (take-append-drop 14 name) ∙ ap (λ (l : List ℕ). l ++ drop 14 name) (sym (same_text (codes "tlpkg/journal/") (take 14 name) (sym ours)))
 
 front_ours : (rest : List ℕ) → is_ours (folder ++ 47 ∷ rest) ≡ true
