@@ -1,6 +1,9 @@
+pub mod Absences
 pub mod AfterParts
 pub mod Members
 pub mod Order
+pub mod Outside
+pub mod Owning
 pub mod Performs
 pub mod Runs
 pub mod Steps

@@ -1,10 +1,10 @@
 -- Names among others.
 use Rattle.std.proofs.Common.{◌≡◌, ◌<◌, ℕ, zero, suc, Bool, true, false, ◌||◌, List, [], ◌∷◌, ◌++◌, length, get_or, refl, sym, ◌∙◌, ap, subst, arith}
-use Rattle.std.specs.List.{list_any, AllByRecursion}
+use Rattle.std.specs.List.{list_any}
 use Rattle.std.proofs.lemmas.Bool.{true≢false}
 use Rattle.tl_model.specs.Volume.{Name, same_name, same_name-is, same_name-refl}
 use Rattle.tl_tree.specs.declared.arrange.Coming.{Coming}
-use Rattle.tl_tree.specs.Staged.{has_name, has_file, files_of, AreOutside}
+use Rattle.tl_tree.specs.Staged.{has_name, has_file, files_of}
 
 or_right : (a b : Bool) → b ≡ true → (a || b) ≡ true
 or_right true b e = refl

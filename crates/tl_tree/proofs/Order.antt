@@ -1,5 +1,5 @@
 -- Where the names below the journal's folder stand among others.
-use Rattle.std.proofs.Common.{◌≡◌, ◌⊎◌, ◌<◌, ℕ, Bool, true, false, List, [], ◌∷◌, ◌++◌, take, drop, Option, Some, None, IsSome, refl, sym, ◌∙◌, ap, subst, inl, inr, arith}
+use Rattle.std.proofs.Common.{◌≡◌, ◌⊎◌, ◌<◌, ℕ, true, false, List, [], ◌∷◌, ◌++◌, take, drop, Option, Some, None, IsSome, refl, sym, ◌∙◌, ap, subst, inl, inr, arith}
 use Rattle.std.specs.Prelude.{codes}
 use Rattle.std.specs.Ordering.{nat_cmp, ordering_then, ordering_reverse}
 use Rattle.std.specs.declared.cmp.Ordering.{Ordering}
@@ -12,14 +12,12 @@ use Rattle.std.proofs.lemmas.List.{take-append-drop}
 use Rattle.tl_model.specs.Volume.{Name, Volume, at, IsBefore, IsAfter, IsNext}
 use Rattle.tl_journal_text.specs.Records.{is_ours}
 use Rattle.tl_journal_text.specs.Stand.{tree_of}
+use Rattle.tl_tree.specs.Nexts.{behind, IsNextFrom, IsFrom}
 use Rattle.tl_tree.specs.Names.{at-tree_of-outside, at-tree_of-ours}
 
--- the folder, and the first name behind all names below it
-abbrev folder : List ℕ
+-- the journal's folder
+abbrev pub folder : List ℕ
 folder = codes "tlpkg/journal"
-
-abbrev pub behind : Name
-behind = codes "tlpkg/journal0"
 
 ranked_by : {G : Type 0} → (a b : ℕ) → (nat_cmp a b ≡ Less → a < b → G) → (nat_cmp a b ≡ Equal → a ≡ b → G) → (nat_cmp a b ≡ Greater → b < a → G) → G
 ranked_by a b less same more = by_ranked (a < b) (a ≡ b) (b < a) (nat_cmp a b) (ranked a b (nat_cmp a b) refl) less same more
@@ -50,7 +48,7 @@ between (c ∷ p) rest (y ∷ m) low other high = ranked_by c y
     (λ is down. absurd (cc (ap (λ o. ordering_then o (slice_cmp nat_cmp (p ++ 47 ∷ rest) m)) is)))
 
 -- a name below the folder
-ours_front : (name : Name) → is_ours name ≡ true → name ≡ folder ++ 47 ∷ drop 14 name
+pub ours_front : (name : Name) → is_ours name ≡ true → name ≡ folder ++ 47 ∷ drop 14 name
 ours_front name ours = sym (take-append-drop 14 name) ∙ ap (λ (l : List ℕ). l ++ drop 14 name) (sym (same_text (codes "tlpkg/journal/") (take 14 name) (sym ours)))
 
 front_ours : (rest : List ℕ) → is_ours (folder ++ 47 ∷ rest) ≡ true
@@ -104,7 +102,7 @@ early held after name other ours next is_after apart high = sides other name
     (λ same. absurd (true≢false (sym (ap is_ours same ∙ ours) ∙ apart)))
     (λ late. absurd (not_between name other ours apart late high))
 
-pub next_behind : (held : Volume) (after : Option Name) (name : Name) → is_ours name ≡ true → IsNext held after (Some name) → IsSome (at held behind) → IsNext (tree_of held) after (Some behind)
+next_behind : (held : Volume) (after : Option Name) (name : Name) → is_ours name ≡ true → IsNext held after (Some name) → IsSome (at held behind) → IsNext (tree_of held) after (Some behind)
 next_behind held after name ours next there = (
   subst (λ (o : Option (List ℕ)). IsSome o) (sym (at-tree_of-outside held behind refl)) there,
   after_trans after name behind next.1 (ours_before name ours),
@@ -124,7 +122,7 @@ late held after name other ours next none is_after rest = elim (cases_Bool (is_o
       rest
 ]
 
-pub next_later : (held : Volume) (after : Option Name) (name : Name) (found : Option Name) → is_ours name ≡ true → IsNext held after (Some name) → at held behind ≡ None → IsNext held (Some behind) found
+next_later : (held : Volume) (after : Option Name) (name : Name) (found : Option Name) → is_ours name ≡ true → IsNext held after (Some name) → at held behind ≡ None → IsNext held (Some behind) found
     → IsNext (tree_of held) after found
 next_later held after name None ours next none rest = λ other is_after. late held after name other ours next none is_after (λ before. rest other before)
 next_later held after name (Some found) ours next none rest = (
@@ -137,9 +135,12 @@ next_later held after name (Some found) ours next none rest = (
     by (inl mine) = absurd (not_both found behind (ours_before found mine) rest.1)
     by (inr apart) = subst (λ (o : Option (List ℕ)). IsSome o) (sym (at-tree_of-outside held found apart)) rest.0
 
--- what is found there comes after what was asked for
-pub after_behind : (after : Option Name) (name found : Name) → is_ours name ≡ true → IsAfter after name → IsBefore behind found → IsAfter after found
-after_behind after name found ours is_after far = after_trans after name found is_after (nat_list_cmp_total.trans name behind found (ours_before name ours) far)
+-- the next name of the tree, where that of the volume is below the folder
+pub next_from : (held : Volume) (after : Option Name) (name : Name) (found : Option Name) → is_ours name ≡ true → IsNext held after (Some name) → IsNextFrom held found → IsNext (tree_of held) after found
+next_from held after name found ours next (inl here) = subst (λ (o : Option Name). IsNext (tree_of held) after o) (sym here.1) (next_behind held after name ours next here.0)
+next_from held after name found ours next (inr later) = next_later held after name found ours next later.0 later.1
 
-pub after_to_behind : (after : Option Name) (name : Name) → is_ours name ≡ true → IsAfter after name → IsAfter after behind
-after_to_behind after name ours is_after = after_trans after name behind is_after (ours_before name ours)
+-- and it comes after what was asked for
+pub after_from : (after : Option Name) (name found : Name) → is_ours name ≡ true → IsAfter after name → IsFrom found → IsAfter after found
+after_from after name found ours is_after (inl same) = subst (λ (n : Name). IsAfter after n) (sym same) (after_trans after name behind is_after (ours_before name ours))
+after_from after name found ours is_after (inr far) = after_trans after name found is_after (nat_list_cmp_total.trans name behind found (ours_before name ours) far)

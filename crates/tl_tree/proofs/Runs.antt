@@ -2,11 +2,11 @@
 use Rattle.std.proofs.Common.{◌≡◌, ◌<◌, ◌+◌, ℕ, suc, zero, true, List, [], ◌∷◌, ◌++◌, length, take, get_or, refl, sym, ◌∙◌, ap, subst, arith, append_assoc}
 use Rattle.std.proofs.lemmas.List.{append-nil, map-append, map_more}
 use Rattle.std.specs.Prelude.{map}
-use Rattle.tl_model.specs.Volume.{Name, Volume}
+use Rattle.tl_model.specs.Volume.{Name}
 use Rattle.tl_model.specs.Seen.{Seen}
 use Rattle.tl_model.specs.Pictures.{since_weaker, since_join, reads_back}
 use Rattle.tl_journal_text.specs.Records.{Record, is_outside}
-use Rattle.tl_journal_text.specs.Stand.{stand, tree_of, Stays}
+use Rattle.tl_journal_text.specs.Stand.{tree_of, Stays}
 use Rattle.tl_journal.specs.States.{staged}
 use Rattle.tl_tree.specs.declared.arrange.Coming.{Coming}
 use Rattle.tl_tree.specs.Staged.{Waits, Stages, FilesOutside, files_of, file_of, writes_of, write_of}

@@ -9,7 +9,7 @@ use Rattle.tl_journal_text.specs.Records.{Record, after}
 use Rattle.tl_journal_text.specs.Stand.{stand, tree_of, Stays, IsBeforeOrAfter}
 use Rattle.tl_journal.specs.States.{staged}
 use Rattle.tl_tree.specs.Traces.{staged_pictures, staged_cut, made_pictures, halted_cut, label_pictures, step_trace, step_cut}
-use Rattle.tl_tree.specs.Staged.{Stages, Waits, IsStaged, IsMade, IsHalted, IsSaid, IsFrontSaid}
+use Rattle.tl_tree.specs.Staged.{Stages, IsStaged, IsMade, IsHalted, IsSaid, IsFrontSaid}
 
 -- all records are staged
 pub staged_all : (xs ys : List Record) (first empty mid last : Seen) → staged empty ≡ [] → tree_of empty.present.held ≡ tree_of first.present.held → Stays first empty → empty.syncs ≡ first.syncs

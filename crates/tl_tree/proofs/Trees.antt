@@ -1,7 +1,7 @@
 -- A tree after names have left and files have come.
-use Rattle.std.proofs.Common.{◌≡◌, ◌≢◌, ◌⊎◌, ◌<◌, ℕ, zero, suc, Bool, true, false, cond, ◌||◌, List, [], ◌∷◌, ◌++◌, length, get_or, Option, Some, None, refl, sym, ◌∙◌, ap, subst, inl, inr, arith}
-use Rattle.std.specs.Prelude.{map, AllPairs}
-use Rattle.std.specs.List.{All, AllByRecursion, list_any}
+use Rattle.std.proofs.Common.{◌≡◌, ◌≢◌, ◌⊎◌, ◌<◌, ℕ, zero, suc, Bool, true, false, cond, ◌||◌, List, [], ◌∷◌, length, get_or, Option, Some, None, refl, sym, ◌∙◌, ap, subst, inl, inr, arith}
+use Rattle.std.specs.Prelude.{AllPairs}
+use Rattle.std.specs.List.{AllByRecursion}
 use Rattle.std.specs.List.Sorted.{IsPermutation}
 use Rattle.std.specs.FinMap as finite
 use Rattle.std.specs.Cmp.Lexicographic.{nat_list_cmp_total}
@@ -9,9 +9,9 @@ use Rattle.std.proofs.lemmas.Bool.{cases_Bool, true≢false}
 use Rattle.std.proofs.lemmas.List.Elements.{All-from_recursion, recursion_from_All}
 use Rattle.std.proofs.lemmas.List.Sorted.{All-permutation, list_any-IsPermutation}
 use Rattle.tl_model.specs.Volume.{Name, Volume, at, same_name, same_name-is, same_name-refl, same_volume}
-use Rattle.tl_journal_text.specs.Records.{Record, after}
+use Rattle.tl_journal_text.specs.Records.{after}
 use Rattle.tl_tree.specs.Changes.{removed_all, written_all, names_of}
-use Rattle.tl_tree.specs.Staged.{has_name, has_file, LeavesOut, removes_of, writes_of, records_for}
+use Rattle.tl_tree.specs.Staged.{has_name, has_file, LeavesOut, writes_of, records_for}
 
 abbrev pub File : Type 0
 File = Name × List ℕ

@@ -1,6 +1,5 @@
 -- What the answers of a tree's calls say.
-use Rattle.std.specs.Prelude.{◌≡◌, ◌≤◌, ◌<◌, ◌+◌, ℕ, true, List, [], ◌∷◌, length, Result, Ok, Err}
-use Rattle.tl_model.specs.Volume.{Volume}
+use Rattle.std.specs.Prelude.{◌≡◌, ◌≤◌, ◌<◌, ◌+◌, ℕ, true, List, [], ◌∷◌, length, Err}
 use Rattle.tl_model.specs.Seen.{Seen}
 use Rattle.tl_model.specs.Trace.{Event, Step, Trace, Cut}
 use Rattle.tl_object.specs.declared.object.Object.{Object}

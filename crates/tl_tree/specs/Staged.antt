@@ -1,5 +1,5 @@
 -- What is staged of a change.
-use Rattle.std.specs.Prelude.{◌≡◌, ◌≤◌, ◌+◌, ℕ, Bool, true, false, List, [], ◌∷◌, ◌++◌, map, take, Some}
+use Rattle.std.specs.Prelude.{◌≡◌, ◌≤◌, ◌+◌, ℕ, Bool, true, false, List, ◌++◌, map, take, Some}
 use Rattle.std.specs.List.{list_any, AllByRecursion}
 use Rattle.tl_model.specs.Volume.{Name, Volume, same_name}
 use Rattle.tl_model.specs.Seen.{Seen, Since}

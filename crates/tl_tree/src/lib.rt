@@ -10,6 +10,8 @@ mod entries;
 mod error;
 mod leaving;
 mod load;
+mod look;
+mod own;
 mod stage;
 mod tree;
 

@@ -1,9 +1,10 @@
-ghost use Rattle.std.specs.Prelude.{◌≡◌, ◌≤◌, ◌+◌, ◌∷◌, [], IfOk, IfErr, IsErrOf, is_ok};
+ghost use Rattle.std.specs.Prelude.{◌≡◌, ◌≤◌, ◌+◌, ◌∷◌, [], IfOk, IfErr, is_ok, option_copied};
 ghost use Rattle.tl_model.specs.Causes.{HasCause, Rose};
 ghost use Rattle.tl_model.specs.Seen.{Told, Quiet, Says};
 ghost use Rattle.tl_model.specs.Trace.{Trace};
 ghost use Rattle.tl_journal_text.specs.Stand.{stand, tree_of};
 ghost use Rattle.tl_db.specs.Reading.{IsRead};
+ghost use Rattle.tl_tree.specs.Owners.{owner_of};
 ghost use Rattle.tl_tree.specs.Planted.{database_text};
 ghost use Rattle.tl_tree.specs.Changes.{IsChange, entries_after, changed};
 ghost use Rattle.tl_tree.specs.Answers.{IsTreeError, IsWithin, IsAllowed, HasBegun, IsUnsynced, IsLostStep, IsStepError, step_of};
@@ -15,12 +16,14 @@ use crate::change::Change;
 use crate::entries::plan_change;
 use crate::error::{StepError, TreeError};
 use crate::load::read_entries;
+use crate::own::owner;
 use crate::stage::carry_out;
 use std::alloc::Global;
 use std::marker::Model;
 use tl_db::Db;
 use tl_host::{Failed, Host};
 use tl_journal::{Clean, Lost};
+use tl_path::{Name, Path};
 
 /// An installed tree: a volume at rest, and the entries of its database.
 #[derive(Drop)]
@@ -68,6 +71,13 @@ impl<H: Host> Tree<H> {
         ensures { result.now ≡ self.now.db }
     {
         &self.db
+    }
+
+    /// The least name of an entry among whose files the path is; `None` exactly where no entry has it. Takes no memory.
+    pub fn owner(&self, path: &Path) -> Option<&Name>
+        ensures { option_copied result ≡ owner_of path.now self.now.db }
+    {
+        owner(&self.db, path)
     }
 
     /// Gives the volume back as it is, at rest.

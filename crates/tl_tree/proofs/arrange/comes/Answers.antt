@@ -1,4 +1,4 @@
-use Rattle.std.proofs.Common.{◌<◌, ◌+◌, ◌-◌, ◌/◌, ℕ, length, get_or, arith, ap, sym, ◌∙◌}
+use Rattle.std.proofs.Common.{◌+◌, ◌-◌, ◌/◌, ℕ, get_or, arith, ap, sym, ◌∙◌}
 use Rattle.std.specs.FinMap.{slice_cmp-IsAntisymmetric, nat_cmp-IsAntisymmetric}
 use Rattle.tl_tree.specs.declared.arrange.Coming.{Coming}
 use Rattle.tl_tree.proofs.Members.{has_file_at}

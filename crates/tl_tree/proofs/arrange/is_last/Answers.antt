@@ -1,4 +1,4 @@
-use Rattle.std.proofs.Common.{◌<◌, ◌-◌, length, arith, sym, ◌∙◌}
+use Rattle.std.proofs.Common.{◌-◌, length, arith, sym, ◌∙◌}
 use Rattle.std.specs.Cmp.Lexicographic.{same_text}
 use Rattle.tl_tree.proofs.Members.{has_name_at}
 use Rattle.tl_tree.proofs.arrange.is_last.Goals as goal

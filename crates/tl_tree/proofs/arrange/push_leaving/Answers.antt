@@ -1,4 +1,4 @@
-use Rattle.std.proofs.Common.{List, ℕ, sym, subst, ◌∙◌, ap}
+use Rattle.std.proofs.Common.{List, ℕ, sym, ◌∙◌, ap}
 use Rattle.tl_tree.specs.Staged.{has_name}
 use Rattle.tl_tree.proofs.Members.{left_there, left_coming, has_name-push}
 use Rattle.tl_tree.proofs.arrange.push_leaving.Goals as goal

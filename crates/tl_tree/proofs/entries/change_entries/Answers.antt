@@ -1,4 +1,4 @@
-use Rattle.std.proofs.Common.{◌<◌, length, arith}
+use Rattle.std.proofs.Common.{arith}
 use Rattle.tl_tree.proofs.AfterParts.{after_more}
 use Rattle.tl_tree.proofs.entries.change_entries.Goals as goal
 

@@ -1,5 +1,4 @@
-use Rattle.std.proofs.Common.{◌<◌, ◌≤◌, ℕ, length, arith}
-use Rattle.std.proofs.lemmas.List.Elements.{All-from_recursion}
+use Rattle.std.proofs.Common.{arith}
 use Rattle.tl_model.specs.Volume.{Name}
 use Rattle.tl_journal_text.specs.Records.{Remove}
 use Rattle.tl_tree.proofs.Runs.{stages_one, stages_more, waits_one, waits_join}

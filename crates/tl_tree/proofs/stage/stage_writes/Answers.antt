@@ -1,4 +1,4 @@
-use Rattle.std.proofs.Common.{◌<◌, ◌≤◌, length, arith}
+use Rattle.std.proofs.Common.{arith}
 use Rattle.tl_journal_text.specs.Records.{Write}
 use Rattle.tl_tree.proofs.Runs.{stages_one, stages_files_more, files_outside_at, waits_one, waits_join}
 use Rattle.tl_tree.proofs.stage.stage_writes.Goals as goal
