@@ -3,3 +3,4 @@ pub mod Trees
 pub mod Acts
 pub mod ReadBack
 pub mod Turns
+pub mod Spelling

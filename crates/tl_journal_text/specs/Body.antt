@@ -63,10 +63,12 @@ reading_by (suc turns) from text = elim (next from text) [
 abbrev pub reading : List ℕ → Reading
 reading text = reading_by (suc (length text)) 0 text
 
+-- the records of a reading, if it is whole
 abbrev pub records_in : Reading → Option (List Record)
 records_in (Whole rs) = Some rs
 records_in (Bad place) = None
 
+-- the place of the fault of a reading, if it has one
 abbrev pub fault_in : Reading → Option ℕ
 fault_in (Whole rs) = None
 fault_in (Bad place) = Some place

@@ -1,4 +1,5 @@
 pub mod Body
 pub mod Records
 pub mod Slots
+pub mod Spelling
 pub mod Stand
