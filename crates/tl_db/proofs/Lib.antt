@@ -1,2 +1,5 @@
 pub mod DbLemmas
 pub mod FindLemmas
+pub mod OptionLemmas
+pub mod PlatformLemmas
+pub mod LineLemmas

@@ -1,5 +1,5 @@
 //! Entries by name.
-ghost use Rattle.std.specs.Prelude.{◌≡◌, ◌<◌, ◌≤◌, List, [], true, false, OnOk, OnErr, MatchOption, length, slice_index_or, option_copied};
+ghost use Rattle.std.specs.Prelude.{◌≡◌, ◌<◌, ◌≤◌, List, [], true, false, IfOk, OnOk, OnErr, MatchOption, length, slice_index_or, option_copied};
 ghost use Rattle.std.specs.Iterator.{YieldsFirstRef, item_count};
 ghost use Rattle.tl_model.specs.Volume.{same_name};
 ghost use Rattle.tl_object.specs.declared.object.Object.{Object};
@@ -9,7 +9,7 @@ ghost use Rattle.tl_db.specs.Entries.{entry_of, others};
 use std::alloc::{AllocError, Global};
 use std::cmp::Ordering;
 use std::marker::Model;
-use tl_object::{Keyed, Object, place_for};
+use tl_object::{Keyed, Object, copies, place_for};
 use tl_path::Name;
 
 /// A database: its entries, each under its name. Contracts see the entries in rising order of their names, each name once.
@@ -94,14 +94,29 @@ impl Db {
         Ok(())
     }
 
+    pub(crate) fn entry(&self, name: &[u8]) -> Option<&Object>
+        ensures { option_copied result ≡ entry_of name.now self.now }
+    {
+        match place_of(self.objects.as_slice(), name) {
+            Some(at) => Some(&self.objects[at]),
+            None => None,
+        }
+    }
+
     /// The entry with this name. Takes no memory.
     pub fn get(&self, name: &Name) -> Option<&Object>
         ensures { option_copied result ≡ entry_of name.now self.now }
     {
-        match place_of(self.objects.as_slice(), name.bytes()) {
-            Some(at) => Some(&self.objects[at]),
-            None => None,
-        }
+        self.entry(name.bytes())
+    }
+
+    /// An equal database.
+    pub fn copy(&self, alloc: Global) -> Result<Db, AllocError>
+        ensures { IfOk result (λ copy. copy ≡ self.now) }
+    {
+        Ok(Db {
+            objects: copies(alloc, self.objects.as_slice())?,
+        })
     }
 
     /// Puts an entry in the place of the one with its name, or among the others. Where memory runs out nothing changes.

@@ -3,12 +3,17 @@
 
 mod db;
 mod fault;
+mod installation;
+mod options;
 mod read;
+mod repo;
 #[cfg(test)]
 mod tests;
 mod write;
 
 pub use db::{Db, Entries};
 pub use fault::{DbError, What};
+pub use options::{OptionError, TreeOption};
 pub use read::read_db;
+pub use repo::Repo;
 pub use write::write_db;

@@ -13,3 +13,5 @@ pub mod Known
 pub mod Writing
 pub mod Steps
 pub mod Plain
+pub mod Copies
+pub mod FilePaths

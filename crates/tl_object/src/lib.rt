@@ -2,8 +2,10 @@
 #![tactic(auto)]
 
 mod builder;
+mod copy;
 mod fault;
 mod file;
+mod file_paths;
 mod form;
 mod head;
 mod key;
@@ -17,6 +19,7 @@ mod tests;
 mod value;
 mod write;
 
+pub use copy::{Copied, copies};
 pub use fault::{LineKind, ObjectError};
 pub use lists::{BinList, DocFileList, Facts, Paths, PlatformName, Texts};
 pub use object::{BinFiles, Container, DocFile, DocFiles, Fact, Files, Object};
