@@ -1,2 +1,2 @@
 pub mod Drops
-pub mod Actions
+pub mod Named

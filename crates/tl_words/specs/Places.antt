@@ -3,13 +3,17 @@ use Rattle.std.proofs.Common.{◌≡◌, ℕ, ◌+◌, ◌<◌, ◌≤◌, Bool,
 use Rattle.std.proofs.lemmas.Bool.Decides.{nat_tests}
 use Rattle.tl_words.specs.declared.faults.Fault.{Fault}
 use Rattle.tl_words.specs.declared.table.OptionName.{OptionName}
-use Rattle.tl_words.specs.declared.table.OptionName.TheVariants.{Repository, Workers}
-use Rattle.tl_words.specs.declared.table.ActionName.{ActionName}
-use Rattle.tl_words.specs.declared.table.ActionName.TheVariants.{DumpTlpdb}
+use Rattle.tl_words.specs.declared.table.OptionName.TheVariants.{Repository, Workers, Usermode, Usertree, Local, All}
+use Rattle.tl_words.specs.declared.action_name.ActionName.{ActionName}
+use Rattle.tl_words.specs.declared.operands.Form.{Form}
+use Rattle.tl_words.specs.declared.operands.Expected.{Expected}
 use Rattle.tl_words.specs.Parts.{Part, given, plain, parts, own_value, is_option_word, option_name, option_value, is_valued}
-use Rattle.tl_words.specs.Table.{takes_value, option_named, action_named}
+use Rattle.tl_words.specs.Table.{takes_value, option_named, action_named_among, needs_local, operands_of, is_served}
 use Rattle.std.specs.List.{list_any}
-use Rattle.tl_words.specs.Faults.{or_else, earlier, given_fault, setting_fault, options_fault, size_fault, plains, foreign_fault, required_fault, operands_fault, known_fault, action_fault, command_fault, tags_after, is_foreign, fault, tag_of, is_worker_count, has_local}
+use Rattle.tl_words.specs.Order.{fault, or_else, earlier}
+use Rattle.tl_words.specs.Operands.{operand_fault, missing_fault, operands_fault, form_of, form_kind, fits, after, is_needed}
+use Rattle.tl_words.specs.Settings.{given_fault, setting_fault, options_fault, tags_after, tag_of, is_worker_count, has_option, repositories_of}
+use Rattle.tl_words.specs.Faults.{size_fault, plains, is_foreign, foreign_fault, user_fault, required_fault, flags_fault, repository_fault, asked_fault, known_fault, action_fault, command_fault}
 use Rattle.tl_words.specs.declared.error.WordKind.TheVariants as kinds
 use Rattle.std.proofs.lemmas.Bool.{cases_lt}
 
@@ -90,11 +94,11 @@ options-within n tags (given at option value ∷ others) w =
     or_else-within n (given_fault tags at option value) (options_fault (tags_after tags option value) others)
     (given-within n tags at option value w.0 w.1.0) (options-within n (tags_after tags option value) others w.1.1)
 
-foreign-within : (n : ℕ) (action : ActionName) (all : List Part) → PartsWithin n all → FaultWithin n (foreign_fault action all)
-foreign-within n action [] w = tt
-foreign-within n action (plain at word ∷ others) w = foreign-within n action others w.1
-foreign-within n action (given at option value ∷ others) w =
-    either (FaultWithin n) (is_foreign action option) (Some (fault kinds.Option at)) (foreign_fault action others) w.0 (foreign-within n action others w.1.1)
+foreign-within : (n : ℕ) (action : ActionName) (usermode : Bool) (all : List Part) → PartsWithin n all → FaultWithin n (foreign_fault action usermode all)
+foreign-within n action usermode [] w = tt
+foreign-within n action usermode (plain at word ∷ others) w = foreign-within n action usermode others w.1
+foreign-within n action usermode (given at option value ∷ others) w =
+    either (FaultWithin n) (is_foreign action usermode option) (Some (fault kinds.Option at)) (foreign_fault action usermode others) w.0 (foreign-within n action usermode others w.1.1)
 
 abbrev PlainsWithin : ℕ → List (ℕ × List ℕ) → Type 0
 PlainsWithin n [] = Unit {0}
@@ -105,23 +109,37 @@ plains-within n [] w = tt
 plains-within n (plain at word ∷ others) w = (w.0, plains-within n others w.1)
 plains-within n (given at option value ∷ others) w = plains-within n others w.1.1
 
-required-within : (n end : ℕ) (action : ActionName) (all : List Part) → end ≤ n → FaultWithin n (required_fault action end all)
-required-within n end DumpTlpdb all h = either (FaultWithin n) (has_local all) None (Some (fault kinds.Option end)) (tt {0}) h
+flags-within : (n end : ℕ) (action : ActionName) (all : List Part) → end ≤ n → PartsWithin n all → FaultWithin n (flags_fault action end all)
+flags-within n end action all e w =
+    or_else-within n (foreign_fault action (has_option Usermode all) all) (or_else (user_fault end all) (required_fault action end all))
+    (foreign-within n action (has_option Usermode all) all w)
+    (or_else-within n (user_fault end all) (required_fault action end all)
+    (either (FaultWithin n) (has_option Usermode all && not (has_option Usertree all)) (Some (fault kinds.Value end)) None e (tt {0}))
+    (either (FaultWithin n) (needs_local action && not (has_option Local all)) (Some (fault kinds.Option end)) None e (tt {0})))
 
-operands-within : (n : ℕ) (action : ActionName) (operands : List (ℕ × List ℕ)) → PlainsWithin n operands → FaultWithin n (operands_fault action operands)
-operands-within n DumpTlpdb [] w = tt
-operands-within n DumpTlpdb (first ∷ others) w = w.0
+operand-within : (n : ℕ) (form : Option Form) (operand : ℕ × List ℕ) → operand.0 ≤ n → FaultWithin n (operand_fault form operand)
+operand-within n None operand h = h
+operand-within n (Some form) operand h = either (FaultWithin n) (fits form operand.1) None (Some (fault (form_kind form) operand.0)) (tt {0}) h
 
-known-within : (n : ℕ) (action : Option ActionName) (at end : ℕ) (all : List Part) (operands : List (ℕ × List ℕ))
-    → at ≤ n → end ≤ n → PartsWithin n all → PlainsWithin n operands → FaultWithin n (known_fault action at end all operands)
-known-within n None at end all operands a e w p = a
-known-within n (Some action) at end all operands a e w p =
-    or_else-within n (foreign_fault action all) (or_else (required_fault action end all) (operands_fault action operands)) (foreign-within n action all w)
-    (or_else-within n (required_fault action end all) (operands_fault action operands) (required-within n end action all e) (operands-within n action operands p))
+operands-within : (n end : ℕ) (expected : Expected) (operands : List (ℕ × List ℕ)) → end ≤ n → PlainsWithin n operands → FaultWithin n (operands_fault expected end operands)
+operands-within n end expected [] e w = either (FaultWithin n) (is_needed expected) (Some (fault kinds.Operand end)) None e (tt {0})
+operands-within n end expected (operand ∷ others) e w =
+    or_else-within n (operand_fault (form_of expected) operand) (operands_fault (after expected operand.1) end others)
+    (operand-within n (form_of expected) operand w.0) (operands-within n end (after expected operand.1) others e w.1)
 
-action-within : (n end : ℕ) (all : List Part) (ps : List (ℕ × List ℕ)) → end ≤ n → PartsWithin n all → PlainsWithin n ps → FaultWithin n (action_fault end all ps)
-action-within n end all [] e w p = e
-action-within n end all (first ∷ operands) e w p = known-within n (action_named first.1) first.0 end all operands p.0 e w p.1
+known-within : (n : ℕ) (in_session : Bool) (action : Option ActionName) (at end : ℕ) (all : List Part) (operands : List (ℕ × List ℕ))
+    → at ≤ n → end ≤ n → PartsWithin n all → PlainsWithin n operands → FaultWithin n (known_fault in_session action at end all operands)
+known-within n in_session None at end all operands a e w p = a
+known-within n in_session (Some action) at end all operands a e w p =
+    let expected : Expected = operands_of action (has_option All all) in
+    let served : Option Fault = repository_fault in_session action end (length (repositories_of all)) in
+    or_else-within n (flags_fault action end all) (or_else (operands_fault expected end operands) served) (flags-within n end action all e w)
+    (or_else-within n (operands_fault expected end operands) served (operands-within n end expected operands e p)
+    (either (FaultWithin n) (in_session || is_served action (length (repositories_of all))) None (Some (fault kinds.Repository end)) (tt {0}) e))
+
+action-within : (n : ℕ) (on : List ActionName) (in_session : Bool) (end : ℕ) (all : List Part) (ps : List (ℕ × List ℕ)) → end ≤ n → PartsWithin n all → PlainsWithin n ps → FaultWithin n (action_fault on in_session end all ps)
+action-within n on in_session end all [] e w p = e
+action-within n on in_session end all (first ∷ operands) e w p = known-within n in_session (action_named_among on first.1) first.0 end all operands p.0 e w p.1
 
 size-within : (at n : ℕ) (words : List (List ℕ)) → at + length words ≤ n → FaultWithin n (size_fault at words)
 size-within at n [] h = tt
@@ -161,20 +179,20 @@ earlier_over (Some a) y found h = step (nat_le a.at found.at) (λ is. not_past a
     step false less_far = h
 
 -- no fault of words stands past 4,096
-pub command-within : (words : List (List ℕ)) (all : List Part) → AreWithin words all → FaultWithin 4096 (command_fault words all)
-command-within words all within = ⊎_elim
+pub command-within : (on : List ActionName) (in_session : Bool) (words : List (List ℕ)) (all : List Part) → AreWithin words all → FaultWithin 4096 (command_fault on in_session words all)
+command-within on in_session words all within = ⊎_elim
     (λ over.
     let first = first_over 0 words (omega arith) (omega (arith, over)) in
-    subst (λ (x : Option Fault). FaultWithin 4096 (or_else (earlier (options_fault [] all) x) (action_fault (length words) all (plains all)))) (sym first.1.0)
-    (earlier_over (options_fault [] all) (action_fault (length words) all (plains all)) first.0 first.1.1))
+    subst (λ (x : Option Fault). FaultWithin 4096 (or_else (earlier (options_fault [] all) x) (action_fault on in_session (length words) all (plains all)))) (sym first.1.0)
+    (earlier_over (options_fault [] all) (action_fault on in_session (length words) all (plains all)) first.0 first.1.1))
     (λ few.
-    or_else-within 4096 (earlier (options_fault [] all) (size_fault 0 words)) (action_fault (length words) all (plains all))
+    or_else-within 4096 (earlier (options_fault [] all) (size_fault 0 words)) (action_fault on in_session (length words) all (plains all))
     (earlier-within 4096 (options_fault [] all) (size_fault 0 words) (options-within 4096 [] all (within 4096 few)) (size-within 0 4096 words (omega (arith, few))))
-    (action-within 4096 (length words) all (plains all) few (within 4096 few) (plains-within 4096 all (within 4096 few))))
+    (action-within 4096 on in_session (length words) all (plains all) few (within 4096 few) (plains-within 4096 all (within 4096 few))))
     (cases_lt 4096 (length words))
 
-pub fault-within : (words : List (List ℕ)) (all : List Part) (found : Fault) → AreWithin words all → command_fault words all ≡ Some found → found.at ≤ 4096
-fault-within words all found within is = subst (FaultWithin 4096) is (command-within words all within)
+pub fault-within : (on : List ActionName) (in_session : Bool) (words : List (List ℕ)) (all : List Part) (found : Fault) → AreWithin words all → command_fault on in_session words all ≡ Some found → found.at ≤ 4096
+fault-within on in_session words all found within is = subst (FaultWithin 4096) is (command-within on in_session words all within)
 
 -- the parts of the program's words, and of a session's
 pub program-within : (words : List (List ℕ)) → AreWithin words (parts false None false 1 (drop 1 words))
@@ -186,9 +204,9 @@ session-within words = λ n h. parts-within true None false 0 n words tt (omega 
 
 pub options_place : (words : List (List ℕ)) (all : List Part) (found : Fault) → AreWithin words all → earlier (options_fault [] all) (size_fault 0 words) ≡ Some found → found.at ≤ 4096
 options_place words all found within is =
-    fault-within words all found within (ap (λ (x : Option Fault). or_else x (action_fault (length words) all (plains all))) is)
+    fault-within [] false words all found within (ap (λ (x : Option Fault). or_else x (action_fault [] false (length words) all (plains all))) is)
 
-pub action_place : (words : List (List ℕ)) (all : List Part) (found : Fault) → AreWithin words all → earlier (options_fault [] all) (size_fault 0 words) ≡ None
-    → action_fault (length words) all (plains all) ≡ Some found → found.at ≤ 4096
-action_place words all found within none is =
-    fault-within words all found within (ap (λ (x : Option Fault). or_else x (action_fault (length words) all (plains all))) none ∙ is)
+pub action_place : (on : List ActionName) (in_session : Bool) (words : List (List ℕ)) (all : List Part) (found : Fault) → AreWithin words all → earlier (options_fault [] all) (size_fault 0 words) ≡ None
+    → action_fault on in_session (length words) all (plains all) ≡ Some found → found.at ≤ 4096
+action_place on in_session words all found within none is =
+    fault-within on in_session words all found within (ap (λ (x : Option Fault). or_else x (action_fault on in_session (length words) all (plains all))) none ∙ is)

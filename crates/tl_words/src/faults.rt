@@ -1,14 +1,17 @@
 // Where words fail to be a command, but for what needs memory.
-ghost use Rattle.std.specs.Prelude.{◌≡◌, ◌==◌, ◌||◌, length, nat_lt, true, false, Some, IfNone, IfSome, option_map};
-ghost use Rattle.tl_words.specs.Faults.{is_worker_count, earlier, size_fault, foreign_fault, is_foreign, is_local, has_local};
-ghost use Rattle.tl_words.specs.Faults.{plains, IsFirstTwo};
-ghost use Rattle.tl_words.specs.Inside.{texts, parts_left, placed_of};
-ghost use Rattle.tl_model.specs.Decimal.{decimal_value};
+ghost use Rattle.std.specs.Prelude.{◌≡◌, ◌==◌, ◌||◌, length, nat_lt, Some, IfOk};
+ghost use Rattle.tl_words.specs.Order.{earlier};
+ghost use Rattle.tl_words.specs.Settings.{is_option, has_option, repositories_of};
+ghost use Rattle.tl_words.specs.Faults.{size_fault, is_foreign, foreign_fault, user_fault, required_fault, flags_fault, repository_fault, asked_fault};
+ghost use Rattle.tl_words.specs.Inside.{texts, parts_left, plains_left};
 
+use crate::action_name::ActionName;
 use crate::error::WordKind;
-use crate::parts::{PartRef, PartsIter, Placed};
-use crate::table::{ActionName, OptionName};
-use tl_text::decimal_u32;
+use crate::operands::operands_fault;
+use crate::parts::{PartRef, PartsIter};
+use crate::plains::PlainsIter;
+use crate::table::OptionName;
+use std::alloc::{AllocError, Global};
 
 /// A fault of words.
 #[derive(Clone, Copy, Debug, PartialEq, Eq)]
@@ -19,6 +22,13 @@ pub struct Fault {
     pub kind: WordKind,
 }
 
+/// Words can't be read.
+#[derive(Clone, Copy)]
+pub(crate) enum ReadError {
+    Bad(Fault),
+    NoMemory,
+}
+
 // The fault at the lesser place; the first one where both have one place.
 pub(crate) fn earlier_of(first: Fault, second: Option<Fault>) -> Fault
     ensures { earlier (Some first) second ≡ Some result }
@@ -26,17 +36,6 @@ pub(crate) fn earlier_of(first: Fault, second: Option<Fault>) -> Fault
     match second {
         Some(second) if second.at < first.at => second,
         _ => first,
-    }
-}
-
-// A number of workers.
-pub(crate) fn worker_count(value: &[u8]) -> Option<u32>
-    ensures none { IfNone result (is_worker_count value.now ≡ false) }
-    ensures some { IfSome result (λ n. (is_worker_count value.now ≡ true) × (n ≡ decimal_value value.now)) }
-{
-    match decimal_u32(value) {
-        Ok(count) if 1 <= count && count <= 64 => Some(count),
-        _ => None,
     }
 }
 
@@ -61,22 +60,29 @@ fn is_past(at: usize, word: &[u8]) -> bool
     at == 4096 || word.len() > 65_536
 }
 
-fn is_foreign(action: ActionName, option: Option<OptionName>) -> bool
-    ensures { result ≡ is_foreign action option }
+fn is_foreign(action: ActionName, usermode: bool, option: Option<OptionName>) -> bool
+    ensures { result ≡ is_foreign action usermode option }
 {
-    match option {
-        Some(option) => !action.goes_with(option),
-        None => true,
+    let Some(option) = option else {
+        return true;
+    };
+    if !action.goes_with(option) {
+        return true;
+    }
+    if usermode {
+        option.is_unfit_for_users()
+    } else {
+        option.is_for_users()
     }
 }
 
-// The first option that doesn't go with the action.
-pub(crate) fn foreign_fault(action: ActionName, parts: PartsIter<'_>) -> Option<Fault>
-    ensures { result ≡ foreign_fault action (parts_left parts.entry) }
+// The first option that is refused.
+fn foreign_fault(action: ActionName, usermode: bool, parts: PartsIter<'_>) -> Option<Fault>
+    ensures { result ≡ foreign_fault action usermode (parts_left parts.entry) }
 {
     for part in parts {
         if let PartRef::Given { at, option, .. } = part {
-            if is_foreign(action, option) {
+            if is_foreign(action, usermode, option) {
                 return Some(Fault {
                     at,
                     kind: WordKind::Option,
@@ -87,19 +93,22 @@ pub(crate) fn foreign_fault(action: ActionName, parts: PartsIter<'_>) -> Option<
     None
 }
 
-fn is_local(option: Option<OptionName>) -> bool
-    ensures { result ≡ is_local option }
+fn is_option(this: OptionName, option: Option<OptionName>) -> bool
+    ensures { result ≡ is_option this option }
 {
-    matches!(option, Some(OptionName::Local))
+    match option {
+        Some(option) => this.is(option),
+        None => false,
+    }
 }
 
-// Whether the flag `local` is among the parts.
-pub(crate) fn has_local(parts: PartsIter<'_>) -> bool
-    ensures { result ≡ has_local (parts_left parts.entry) }
+// Whether an option is among the parts.
+pub(crate) fn has_option(this: OptionName, parts: PartsIter<'_>) -> bool
+    ensures { result ≡ has_option this (parts_left parts.entry) }
 {
     for part in parts {
         if let PartRef::Given { option, .. } = part {
-            if is_local(option) {
+            if is_option(this, option) {
                 return true;
             }
         }
@@ -107,18 +116,84 @@ pub(crate) fn has_local(parts: PartsIter<'_>) -> bool
     false
 }
 
-// The first plain word and the next one.
-pub(crate) fn first_plains<'a>(parts: PartsIter<'a>) -> (Option<Placed<'a>>, Option<Placed<'a>>)
-    ensures { IsFirstTwo (plains (parts_left parts.entry)) (option_map placed_of result.0) (option_map placed_of result.1) }
+// The fault of `usermode` without `usertree`.
+fn user_fault(end: usize, parts: PartsIter<'_>) -> Option<Fault>
+    ensures { result ≡ user_fault end (parts_left parts.entry) }
 {
-    let mut first = None;
-    for part in parts {
-        if let PartRef::Plain { at, word } = part {
-            if first.is_some() {
-                return (first, Some(Placed { at, word }));
-            }
-            first = Some(Placed { at, word });
-        }
+    if has_option(OptionName::Usermode, parts) && !has_option(OptionName::Usertree, parts) {
+        Some(Fault {
+            at: end,
+            kind: WordKind::Value,
+        })
+    } else {
+        None
     }
-    (first, None)
+}
+
+// The fault of an action that needs `local`.
+fn required_fault(action: ActionName, end: usize, parts: PartsIter<'_>) -> Option<Fault>
+    ensures { result ≡ required_fault action end (parts_left parts.entry) }
+{
+    if action.needs_local() && !has_option(OptionName::Local, parts) {
+        Some(Fault {
+            at: end,
+            kind: WordKind::Option,
+        })
+    } else {
+        None
+    }
+}
+
+// The first fault of the options with an action.
+fn flags_fault(action: ActionName, end: usize, parts: PartsIter<'_>) -> Option<Fault>
+    ensures { result ≡ flags_fault action end (parts_left parts.entry) }
+{
+    let foreign = foreign_fault(action, has_option(OptionName::Usermode, parts), parts);
+    if foreign.is_some() {
+        return foreign;
+    }
+    let user = user_fault(end, parts);
+    if user.is_some() {
+        return user;
+    }
+    required_fault(action, end, parts)
+}
+
+// The fault of too few or too many repositories.
+fn repository_fault(in_session: bool, action: ActionName, end: usize, count: usize) -> Option<Fault>
+    ensures { result ≡ repository_fault in_session action end count }
+{
+    if in_session || action.is_served(count) {
+        None
+    } else {
+        Some(Fault {
+            at: end,
+            kind: WordKind::Repository,
+        })
+    }
+}
+
+// The first fault of a known action's words; `end` is the number of words, `count` that of the repositories.
+pub(crate) fn asked_fault(
+    alloc: Global,
+    in_session: bool,
+    action: ActionName,
+    end: usize,
+    count: usize,
+    parts: PartsIter<'_>,
+    operands: PlainsIter<'_>,
+) -> Result<Option<Fault>, AllocError>
+    requires { count ≡ length (repositories_of (parts_left parts)) }
+    ensures { IfOk result (λ found. found ≡ asked_fault in_session action end (parts_left parts.entry) (plains_left operands.entry)) }
+{
+    let flags = flags_fault(action, end, parts);
+    if flags.is_some() {
+        return Ok(flags);
+    }
+    let expected = action.operands(has_option(OptionName::All, parts));
+    let operand = operands_fault(alloc, expected, end, operands)?;
+    if operand.is_some() {
+        return Ok(operand);
+    }
+    Ok(repository_fault(in_session, action, end, count))
 }

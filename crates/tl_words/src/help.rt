@@ -1,5 +1,6 @@
 // How the program is called, from the table of actions and options.
-use crate::table::{ACTIONS, ActionName, OPTIONS};
+use crate::action_name::{ActionName, BUILT};
+use crate::table::OPTIONS;
 use std::alloc::{AllocError, Global};
 
 /// How the program is called: each action that is on, with its operands, its options and a line of what it does.
@@ -8,7 +9,7 @@ pub fn usage(alloc: Global) -> Result<String, AllocError> {
         alloc,
         "Usage: texlive ROOT ACTION [OPTION..] [OPERAND..]\n\nActions:\n",
     )?;
-    for action in ACTIONS {
+    for action in BUILT {
         describe(&mut text, action)?;
     }
     text.push_str("\nOptions of every action:\n")?;
@@ -28,7 +29,7 @@ fn describe(text: &mut String, action: ActionName) -> Result<(), AllocError> {
             text.push_str(option.text())?;
         }
     }
-    text.push_str(action.operands())?;
+    text.push_str(action.operands_text())?;
     text.push_str("\n      ")?;
     text.push_str(action.effect())?;
     text.push_str("\n")

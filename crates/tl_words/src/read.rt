@@ -1,17 +1,24 @@
 // The command that words ask for, or their first fault.
-ghost use Rattle.std.specs.Prelude.{◌≡◌, ◌≤◌, [], Some, None, IfOk, IfErr, OnOk, MatchResult, option_map};
-ghost use Rattle.tl_words.specs.Faults.{earlier, or_else, options_fault, size_fault, action_fault, command_fault, foreign_fault, required_fault, operand_fault, plains, program_parts, session_parts, words_fault, session_fault};
-ghost use Rattle.tl_words.specs.Commands.{first_action, IsCommandOf, HasRoot, repositories_of, workers_of};
-ghost use Rattle.tl_words.specs.Inside.{texts, parts_left, placed_of};
-ghost use Rattle.tl_words.specs.Errors.{IsErrorOf, IsOptionsError};
+ghost use Rattle.std.specs.Prelude.{◌≡◌, ◌≤◌, [], Some, None, true, false, length, IfOk, IfErr, OnOk, MatchResult, option_map};
+ghost use Rattle.tl_words.specs.Order.{earlier};
+ghost use Rattle.tl_words.specs.Table.{built_actions, session_actions};
+ghost use Rattle.tl_words.specs.Settings.{options_fault, repositories_of, workers_of, user_of};
+ghost use Rattle.tl_words.specs.Faults.{size_fault, action_fault, command_fault, plains, program_parts, session_parts, words_fault_among, words_fault, session_fault_among, session_fault};
+ghost use Rattle.tl_words.specs.Commands.{first_action_among, action_of, IsCommandAmong, IsCommandOf, IsSessionCommandOf, IsBuilt, IsBuiltForSessions, HasRoot};
+ghost use Rattle.tl_words.specs.Inside.{texts, parts_left};
+ghost use Rattle.tl_words.specs.Errors.{IsErrorOf, IsReadError};
 ghost use Rattle.tl_words.specs.Places.{AreWithin};
 
-use crate::command::{Action, Bytes, Command, Repositories};
+use crate::action_name::{ActionName, BUILT, BUILT_IN_SESSION};
+use crate::command::{Action, Command, Repositories};
 use crate::error::{WordKind, WordsError};
-use crate::faults::{Fault, earlier_of, first_plains, foreign_fault, has_local, size_fault};
-use crate::parts::{PartsIter, Placed};
-use crate::settings::{OptionsError, Settings, read_options};
-use crate::table::ActionName;
+use crate::faults::{Fault, ReadError, asked_fault, earlier_of, has_option, size_fault};
+use crate::lists::Bytes;
+use crate::parts::PartsIter;
+use crate::plains::PlainsIter;
+use crate::settings::{Settings, read_options};
+use crate::table::OptionName;
+use crate::values::read_action;
 use std::alloc::Global;
 
 fn refused(fault: Fault) -> WordsError
@@ -25,124 +32,106 @@ fn refused(fault: Fault) -> WordsError
 }
 
 // The settings of the options, where neither they nor the words' sizes have a fault.
-fn settings(
-    alloc: Global,
-    words: &[Vec<u8>],
-    parts: PartsIter<'_>,
-) -> Result<Settings, OptionsError>
+fn settings(alloc: Global, words: &[Vec<u8>], parts: PartsIter<'_>) -> Result<Settings, ReadError>
     ensures none { OnOk result (earlier (options_fault [] (parts_left parts.entry)) (size_fault 0 (texts words.now)) ≡ None) }
     ensures repositories { IfOk result (λ settings. settings.repositories.items ≡ repositories_of (parts_left parts.entry)) }
     ensures workers { IfOk result (λ settings. settings.workers ≡ workers_of 4 (parts_left parts.entry)) }
-    ensures fault { IfErr result (IsOptionsError (earlier (options_fault [] (parts_left parts.entry)) (size_fault 0 (texts words.now)))) }
+    ensures user { IfOk result (λ settings. settings.user ≡ user_of None (parts_left parts.entry)) }
+    ensures fault { IfErr result (IsReadError (earlier (options_fault [] (parts_left parts.entry)) (size_fault 0 (texts words.now)))) }
 {
     let size = size_fault(words);
     match read_options(alloc, parts) {
         Ok(settings) => match size {
-            Some(fault) => Err(OptionsError::Bad(fault)),
+            Some(fault) => Err(ReadError::Bad(fault)),
             None => Ok(settings),
         },
-        Err(OptionsError::Bad(fault)) => Err(OptionsError::Bad(earlier_of(fault, size))),
-        Err(OptionsError::NoMemory) => Err(OptionsError::NoMemory),
+        Err(ReadError::Bad(fault)) => Err(ReadError::Bad(earlier_of(fault, size))),
+        Err(ReadError::NoMemory) => Err(ReadError::NoMemory),
     }
 }
 
-// The fault of a known action's words, which `dump-tlpdb` has without `local` and with an operand.
-fn known_fault(
-    action: ActionName,
+// The action, where it and what goes with it have no fault; `end` is the number of words, `count` that of the repositories.
+fn read_asked(
+    alloc: Global,
+    on: &[ActionName],
+    in_session: bool,
     end: usize,
+    count: usize,
     parts: PartsIter<'_>,
-    operand: Option<Placed<'_>>,
-) -> Option<Fault>
-    ensures { result ≡ or_else (foreign_fault action (parts_left parts.entry))
-        (or_else (required_fault action end (parts_left parts.entry)) (operand_fault action (option_map placed_of operand.entry))) }
+) -> Result<Action, ReadError>
+    requires { count ≡ length (repositories_of (parts_left parts)) }
+    ensures none { OnOk result (action_fault on.now in_session end (parts_left parts.entry) (plains (parts_left parts.entry)) ≡ None) }
+    ensures action { IfOk result (λ action. option_map (action_of (parts_left parts.entry))
+        (first_action_among on.now (plains (parts_left parts.entry))) ≡ Some action) }
+    ensures fault { IfErr result (IsReadError (action_fault on.now in_session end (parts_left parts.entry) (plains (parts_left parts.entry)))) }
 {
-    let foreign = foreign_fault(action, parts);
-    if foreign.is_some() {
-        return foreign;
-    }
-    match action {
-        ActionName::DumpTlpdb => {
-            if !has_local(parts) {
-                return Some(Fault {
-                    at: end,
-                    kind: WordKind::Option,
-                });
-            }
-            match operand {
-                Some(operand) => Some(Fault {
-                    at: operand.at,
-                    kind: WordKind::Operand,
-                }),
-                None => None,
-            }
-        }
-    }
-}
-
-// The action, where it and what goes with it have no fault; `end` is the number of words.
-fn find_action(end: usize, parts: PartsIter<'_>) -> Result<ActionName, Fault>
-    ensures { MatchResult result
-        (λ action. (action_fault end (parts_left parts.entry) (plains (parts_left parts.entry)) ≡ None)
-        × (first_action (plains (parts_left parts.entry)) ≡ Some action))
-        (λ fault. action_fault end (parts_left parts.entry) (plains (parts_left parts.entry)) ≡ Some fault) }
-{
-    let (first, operand) = first_plains(parts);
-    let Some(first) = first else {
-        return Err(Fault {
+    let mut operands = PlainsIter::of(parts);
+    let Some(first) = operands.next() else {
+        return Err(ReadError::Bad(Fault {
             at: end,
             kind: WordKind::Action,
-        });
+        }));
     };
-    let Some(action) = ActionName::named(first.word) else {
-        return Err(Fault {
+    let Some(action) = ActionName::named(on, first.word) else {
+        return Err(ReadError::Bad(Fault {
             at: first.at,
             kind: WordKind::Action,
-        });
+        }));
     };
-    match known_fault(action, end, parts, operand) {
-        Some(fault) => Err(fault),
-        None => Ok(action),
+    match asked_fault(alloc, in_session, action, end, count, parts, operands) {
+        Ok(None) => match read_action(alloc, action, parts, operands) {
+            Ok(action) => Ok(action),
+            Err(_) => Err(ReadError::NoMemory),
+        },
+        Ok(Some(fault)) => Err(ReadError::Bad(fault)),
+        Err(_) => Err(ReadError::NoMemory),
     }
 }
 
 fn command(
     alloc: Global,
+    on: &[ActionName],
+    in_session: bool,
     root: Bytes,
     words: &[Vec<u8>],
     parts: PartsIter<'_>,
 ) -> Result<Command, WordsError>
     requires { AreWithin (texts words.now) (parts_left parts) }
-    ensures none { OnOk result (command_fault (texts words.now) (parts_left parts.entry) ≡ None) }
+    ensures none { OnOk result (command_fault on.now in_session (texts words.now) (parts_left parts.entry) ≡ None) }
     ensures root { IfOk result (λ command. command.root ≡ root) }
-    ensures command { IfOk result (IsCommandOf (parts_left parts.entry)) }
-    ensures fault { IfErr result (IsErrorOf (command_fault (texts words.now) (parts_left parts.entry))) }
+    ensures command { IfOk result (IsCommandAmong on.now (parts_left parts.entry)) }
+    ensures fault { IfErr result (IsErrorOf (command_fault on.now in_session (texts words.now) (parts_left parts.entry))) }
 {
     let settings = match settings(alloc, words, parts) {
         Ok(settings) => settings,
-        Err(OptionsError::Bad(fault)) => return Err(refused(fault)),
-        Err(OptionsError::NoMemory) => return Err(WordsError::NoMemory),
+        Err(ReadError::Bad(fault)) => return Err(refused(fault)),
+        Err(ReadError::NoMemory) => return Err(WordsError::NoMemory),
     };
-    match find_action(words.len(), parts) {
-        Ok(ActionName::DumpTlpdb) => Ok(Command {
+    let count = settings.repositories.len();
+    match read_asked(alloc, on, in_session, words.len(), count, parts) {
+        Ok(action) => Ok(Command {
             root,
             repositories: Repositories::new(settings.repositories),
             workers: settings.workers,
-            action: Action::DumpTlpdb {
-                local: has_local(parts),
-            },
-            user: None,
-            formats: false,
+            action,
+            user: settings.user,
+            formats: has_option(OptionName::Formats, parts),
         }),
-        Err(fault) => Err(refused(fault)),
+        Err(ReadError::Bad(fault)) => Err(refused(fault)),
+        Err(ReadError::NoMemory) => Err(WordsError::NoMemory),
     }
 }
 
-/// Reads the program's words, of which the first is the root. `BadWords` is their first fault.
-pub fn read_words(alloc: Global, words: &[Vec<u8>]) -> Result<Command, WordsError>
-    ensures none { OnOk result (words_fault (texts words.now) ≡ None) }
+// Reads the program's words, where some actions are on.
+pub(crate) fn read_words_among(
+    alloc: Global,
+    on: &[ActionName],
+    words: &[Vec<u8>],
+) -> Result<Command, WordsError>
+    ensures none { OnOk result (words_fault_among on.now (texts words.now) ≡ None) }
     ensures root { IfOk result (HasRoot (texts words.now)) }
-    ensures command { IfOk result (IsCommandOf (program_parts (texts words.now))) }
-    ensures fault { IfErr result (IsErrorOf (words_fault (texts words.now))) }
+    ensures command { IfOk result (IsCommandAmong on.now (program_parts (texts words.now))) }
+    ensures fault { IfErr result (IsErrorOf (words_fault_among on.now (texts words.now))) }
 {
     let Some(root) = words.first() else {
         return Err(WordsError::BadWords {
@@ -151,22 +140,57 @@ pub fn read_words(alloc: Global, words: &[Vec<u8>]) -> Result<Command, WordsErro
         });
     };
     match Vec::from_slice(alloc, root.as_slice()) {
-        Ok(root) => command(alloc, Bytes::new(root), words, PartsIter::of_program(words)),
+        Ok(root) => command(
+            alloc,
+            on,
+            false,
+            Bytes::new(root),
+            words,
+            PartsIter::of_program(words),
+        ),
         Err(_) => Err(WordsError::NoMemory),
     }
+}
+
+// Reads the words of a session's line, where some actions are on.
+pub(crate) fn read_shell_words_among(
+    alloc: Global,
+    on: &[ActionName],
+    words: &[Vec<u8>],
+) -> Result<Command, WordsError>
+    ensures none { OnOk result (session_fault_among on.now (texts words.now) ≡ None) }
+    ensures root { IfOk result (λ command. command.root ≡ []) }
+    ensures command { IfOk result (IsCommandAmong on.now (session_parts (texts words.now))) }
+    ensures fault { IfErr result (IsErrorOf (session_fault_among on.now (texts words.now))) }
+{
+    command(
+        alloc,
+        on,
+        true,
+        Bytes::new(Vec::new(alloc)),
+        words,
+        PartsIter::of_session(words),
+    )
+}
+
+/// Reads the program's words, of which the first is the root. `BadWords` is their first fault.
+pub fn read_words(alloc: Global, words: &[Vec<u8>]) -> Result<Command, WordsError>
+    ensures none { OnOk result (words_fault (texts words.now) ≡ None) }
+    ensures root { IfOk result (HasRoot (texts words.now)) }
+    ensures command { IfOk result (IsCommandOf (program_parts (texts words.now))) }
+    ensures on { IfOk result (λ command. IsBuilt command.action) }
+    ensures fault { IfErr result (IsErrorOf (words_fault (texts words.now))) }
+{
+    read_words_among(alloc, &BUILT, words)
 }
 
 /// Reads the words of a session's line, which have no root and no repositories. `BadWords` is their first fault.
 pub fn read_shell_words(alloc: Global, words: &[Vec<u8>]) -> Result<Command, WordsError>
     ensures none { OnOk result (session_fault (texts words.now) ≡ None) }
     ensures root { IfOk result (λ command. command.root ≡ []) }
-    ensures command { IfOk result (IsCommandOf (session_parts (texts words.now))) }
+    ensures command { IfOk result (IsSessionCommandOf (session_parts (texts words.now))) }
+    ensures on { IfOk result (λ command. IsBuiltForSessions command.action) }
     ensures fault { IfErr result (IsErrorOf (session_fault (texts words.now))) }
 {
-    command(
-        alloc,
-        Bytes::new(Vec::new(alloc)),
-        words,
-        PartsIter::of_session(words),
-    )
+    read_shell_words_among(alloc, &BUILT_IN_SESSION, words)
 }

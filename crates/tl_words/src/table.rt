@@ -1,6 +1,8 @@
-// The options and the actions that the program knows.
+// The options that the program knows.
 ghost use Rattle.std.specs.Prelude.{◌≡◌, bytes_eq, find};
-ghost use Rattle.tl_words.specs.Table.{option_text, takes_value, option_named, action_text, action_named, goes_with, is_common};
+ghost use Rattle.tl_words.specs.Table.{option_text, takes_value, option_named, is_common, is_same_option};
+ghost use Rattle.tl_words.specs.Table.{is_dump_option, is_install_option, is_update_option, is_remove_option, is_all_option};
+ghost use Rattle.tl_words.specs.Faults.{is_unfit_for_users, is_for_users};
 
 /// The options.
 #[derive(Clone, Copy, Debug, PartialEq, Eq)]
@@ -80,6 +82,79 @@ impl OptionName {
         }
     }
 
+    // Whether it is the other one.
+    pub(crate) fn is(self, other: OptionName) -> bool
+        ensures { result ≡ is_same_option self other }
+    {
+        self.text().as_bytes() == other.text().as_bytes()
+    }
+
+    pub(crate) fn is_of_dump(self) -> bool
+        ensures { result ≡ is_dump_option self }
+    {
+        matches!(self, OptionName::Local)
+    }
+
+    pub(crate) fn is_of_install(self) -> bool
+        ensures { result ≡ is_install_option self }
+    {
+        match self {
+            OptionName::NoDepends
+            | OptionName::NoDependsAtAll
+            | OptionName::Reinstall
+            | OptionName::Formats
+            | OptionName::Usermode
+            | OptionName::Usertree => true,
+            _ => false,
+        }
+    }
+
+    pub(crate) fn is_of_update(self) -> bool
+        ensures { result ≡ is_update_option self }
+    {
+        match self {
+            OptionName::All
+            | OptionName::NoAutoInstall
+            | OptionName::NoAutoRemove
+            | OptionName::ReinstallForciblyRemoved
+            | OptionName::Formats => true,
+            _ => false,
+        }
+    }
+
+    pub(crate) fn is_of_remove(self) -> bool
+        ensures { result ≡ is_remove_option self }
+    {
+        match self {
+            OptionName::Force | OptionName::Formats | OptionName::Usermode | OptionName::Usertree =>
+                true,
+            _ => false,
+        }
+    }
+
+    pub(crate) fn is_all(self) -> bool
+        ensures { result ≡ is_all_option self }
+    {
+        matches!(self, OptionName::All)
+    }
+
+    // Whether it may not stand beside `usermode`.
+    pub(crate) fn is_unfit_for_users(self) -> bool
+        ensures { result ≡ is_unfit_for_users self }
+    {
+        match self {
+            OptionName::NoDependsAtAll | OptionName::Reinstall | OptionName::Formats => true,
+            _ => false,
+        }
+    }
+
+    // Whether it needs `usermode` beside it.
+    pub(crate) fn is_for_users(self) -> bool
+        ensures { result ≡ is_for_users self }
+    {
+        matches!(self, OptionName::Usertree)
+    }
+
     pub(crate) fn named(in_session: bool, name: &[u8]) -> Option<OptionName>
         ensures { result ≡ option_named in_session name.now }
     {
@@ -97,63 +172,4 @@ fn option_among(all: &[OptionName], name: &[u8]) -> Option<OptionName>
     all.iter()
         .copied()
         .find(|option| option.text().as_bytes() == name)
-}
-
-/// The actions that are on.
-#[derive(Clone, Copy, Debug, PartialEq, Eq)]
-pub enum ActionName {
-    DumpTlpdb,
-}
-
-pub(crate) const ACTIONS: [ActionName; 1] = [ActionName::DumpTlpdb];
-
-impl ActionName {
-    pub(crate) fn text(self) -> &'static str
-        ensures { result.now ≡ action_text self }
-    {
-        match self {
-            ActionName::DumpTlpdb => "dump-tlpdb",
-        }
-    }
-
-    pub(crate) fn named(word: &[u8]) -> Option<ActionName>
-        ensures { result ≡ action_named word.now }
-    {
-        action_among(&ACTIONS, word)
-    }
-
-    // Whether the option goes with the action.
-    pub(crate) fn goes_with(self, option: OptionName) -> bool
-        ensures { result ≡ goes_with self option }
-    {
-        if option.is_common() {
-            return true;
-        }
-        match (self, option) {
-            (ActionName::DumpTlpdb, OptionName::Local) => true,
-            (ActionName::DumpTlpdb, _) => false,
-        }
-    }
-
-    // Its operands in a usage text, each with a blank before it.
-    pub(crate) fn operands(self) -> &'static str {
-        match self {
-            ActionName::DumpTlpdb => "",
-        }
-    }
-
-    // What it does, in a line.
-    pub(crate) fn effect(self) -> &'static str {
-        match self {
-            ActionName::DumpTlpdb => "Says the text of the local database.",
-        }
-    }
-}
-
-fn action_among(all: &[ActionName], word: &[u8]) -> Option<ActionName>
-    ensures { result ≡ find (λ action. bytes_eq (action_text action) word.now) all.now }
-{
-    all.iter()
-        .copied()
-        .find(|action| action.text().as_bytes() == word)
 }

@@ -22,6 +22,7 @@ fn fault_of(alloc: Global, line: &str) -> Result<Option<WordsError>, AllocError>
 fn is_local_dump(command: &Command) -> bool {
     match command.action {
         Action::DumpTlpdb { local } => local,
+        _ => false,
     }
 }
 

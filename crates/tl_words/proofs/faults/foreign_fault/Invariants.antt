@@ -7,5 +7,5 @@ abbrev pub invariant-loop-part : goal.invariant-loop-part
 invariant-loop-part l = record {
   can : (goal.iterator-loop-part).can_next l.part-iterator;
   ends : (goal.iterator-loop-part).is_finite l.part-iterator;
-  same : foreign_fault l.action (parts_left l.fn.parts) ≡ foreign_fault l.action (parts_left l.part-iterator);
+  same : foreign_fault l.action l.usermode (parts_left l.fn.parts) ≡ foreign_fault l.action l.usermode (parts_left l.part-iterator);
 }

@@ -1,7 +1,10 @@
-use Rattle.std.proofs.Common.{[], ap, ◌∙◌, subst, ℕ}
-use Rattle.tl_words.specs.declared.settings.OptionsError.{OptionsError}
-use Rattle.tl_words.specs.Errors.{IsOptionsError}
-use Rattle.tl_words.specs.Faults.{earlier, options_fault, size_fault, action_fault, plains}
+use Rattle.std.proofs.Common.{[], ap, ◌∙◌, subst, sym, ℕ, ◌≤◌, length}
+use Rattle.tl_words.specs.declared.faults.Fault.{Fault}
+use Rattle.tl_words.specs.declared.faults.ReadError.{ReadError}
+use Rattle.tl_words.specs.Errors.{IsReadError}
+use Rattle.tl_words.specs.Order.{earlier}
+use Rattle.tl_words.specs.Settings.{options_fault}
+use Rattle.tl_words.specs.Faults.{size_fault, action_fault, plains}
 use Rattle.tl_words.specs.Inside.{texts, parts_left}
 use Rattle.tl_words.proofs.Drops.{length_texts}
 use Rattle.tl_words.specs.Places.{options_place, action_place}
@@ -9,11 +12,14 @@ use Rattle.tl_words.proofs.read.command.Goals as goal
 
 pub refused-requires : goal.refused-requires
 refused-requires c =
-    options_place (texts c.args.words.now) (parts_left c.args.parts) c.in-Err-Bad.fault c.requires
-    (subst (λ (e : OptionsError). IsOptionsError (earlier (options_fault [] (parts_left c.args.parts)) (size_fault 0 (texts c.args.words.now))) e)
-    c.in-Err-Bad.field-0-is c.in-Err-Bad.ensures.fault)
+    subst (λ (f : Fault). f.at ≤ 4096) (sym c.in-Err-Bad.fault-is)
+    (options_place (texts c.args.words.now) (parts_left c.args.parts) c.in-Err-Bad.fault c.requires
+    (subst (λ (e : ReadError). IsReadError (earlier (options_fault [] (parts_left c.args.parts)) (size_fault 0 (texts c.args.words.now))) e)
+    c.in-Err-Bad.field-0-is c.in-Err-Bad.ensures.fault))
 
-pub refused-requires-in-Err : goal.refused-requires-in-Err
-refused-requires-in-Err c =
-    action_place (texts c.args.words.now) (parts_left c.args.parts) c.in-Err.fault c.requires c.in-Ok.ensures.none
-    (ap (λ (n : ℕ). action_fault n (parts_left c.args.parts) (plains (parts_left c.args.parts))) (length_texts c.args.words.now) ∙ c.in-Err.ensures)
+pub refused-requires-in-Err-Bad-read_asked : goal.refused-requires-in-Err-Bad-read_asked
+refused-requires-in-Err-Bad-read_asked c =
+    action_place c.args.on.now c.args.in_session (texts c.args.words.now) (parts_left c.args.parts) c.in-Err-Bad-read_asked.fault c.requires c.in-Ok.ensures.none
+    (ap (λ (n : ℕ). action_fault c.args.on.now c.args.in_session n (parts_left c.args.parts) (plains (parts_left c.args.parts))) (length_texts c.args.words.now)
+    ∙ subst (λ (e : ReadError). IsReadError (action_fault c.args.on.now c.args.in_session (length c.args.words.now) (parts_left c.args.parts) (plains (parts_left c.args.parts))) e)
+    c.in-Err-Bad-read_asked.field-0-is c.in-Err-Bad-read_asked.ensures.fault)

@@ -1,8 +1,9 @@
-use Rattle.std.proofs.Common.{sym, subst, List}
-use Rattle.tl_words.specs.Parts.{Part}
+use Rattle.tl_words.specs.Table.{built_actions}
+use Rattle.tl_words.specs.Faults.{program_parts}
 use Rattle.tl_words.specs.Inside.{texts}
-use Rattle.tl_words.specs.Places.{AreWithin, program-within}
+use Rattle.tl_words.proofs.Named.{read_on}
 use Rattle.tl_words.proofs.read.read_words.Goals as goal
 
-pub command-requires : goal.command-requires
-command-requires c = subst (λ (all : List Part). AreWithin (texts c.args.words.now) all) (sym c.of_program.ensures) (program-within (texts c.args.words.now))
+pub returns-clause-on : goal.returns-clause-on
+returns-clause-on c =
+    read_on built_actions (program_parts (texts c.args.words.now)) c.read_words_among.result c.read_words_among.ensures.command

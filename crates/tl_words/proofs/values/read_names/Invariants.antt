@@ -1,0 +1,11 @@
+use Rattle.std.proofs.Common.{◌≡◌}
+use Rattle.tl_words.specs.Commands.{distinct, distinct_after}
+use Rattle.tl_words.specs.Inside.{words_left}
+use Rattle.tl_words.proofs.values.read_names.Given as goal
+
+abbrev pub invariant-loop-operand : goal.invariant-loop-operand
+invariant-loop-operand l = record {
+  can : (goal.iterator-loop-operand).can_next l.operand-iterator;
+  ends : (goal.iterator-loop-operand).is_finite l.operand-iterator;
+  same : distinct (words_left l.fn.operands) ≡ distinct_after l.names.items (words_left l.operand-iterator);
+}

@@ -1,0 +1,320 @@
+// An action with its options and operands, whose words have no fault.
+ghost use Rattle.std.specs.Prelude.{◌≡◌, IfOk, bytes_eq, option_map};
+ghost use Rattle.std.specs.List.{list_any};
+ghost use Rattle.tl_words.specs.Commands.{first_word, may_word, later_words, with_word, distinct, number_within, check_of, pins_by, pins_of, action_with};
+ghost use Rattle.tl_words.specs.Settings.{has_option};
+ghost use Rattle.tl_words.specs.Inside.{texts, parts_left, words_left};
+ghost use Rattle.tl_words.specs.Operands.{pin_word};
+
+use crate::action_name::ActionName;
+use crate::command::{Action, PinAction};
+use crate::faults::has_option;
+use crate::lists::{Bytes, Names, Texts};
+use crate::operands::{PinWord, number_within};
+use crate::parts::PartsIter;
+use crate::plains::PlainsIter;
+use crate::table::OptionName;
+use std::alloc::{AllocError, Global};
+use tl_path::{Check, Name, Tag};
+
+fn read_name(alloc: Global, word: &[u8]) -> Result<Name, AllocError>
+    ensures { IfOk result (λ name. name ≡ word.now) }
+{
+    Name::parse(alloc, word).map_err(|_| AllocError)
+}
+
+fn read_tag(alloc: Global, word: &[u8]) -> Result<Tag, AllocError>
+    ensures { IfOk result (λ tag. tag ≡ word.now) }
+{
+    Tag::parse(alloc, word).map_err(|_| AllocError)
+}
+
+fn read_bytes(alloc: Global, word: &[u8]) -> Result<Bytes, AllocError>
+    ensures { IfOk result (λ bytes. bytes ≡ word.now) }
+{
+    Ok(Bytes::new(Vec::from_slice(alloc, word)?))
+}
+
+fn read_check(word: &[u8]) -> Check
+    ensures { result ≡ check_of word.now }
+{
+    Check::read(word).unwrap_or(Check::All)
+}
+
+fn number_or_zero(least: u32, most: u32, word: &[u8]) -> u32
+    ensures { result ≡ number_within least most word.now }
+{
+    number_within(least, most, word).unwrap_or(0)
+}
+
+// The next operand as a name, if there is one.
+fn take_name(alloc: Global, operands: &mut PlainsIter<'_>) -> Result<Option<Name>, AllocError>
+    ensures name { IfOk result (λ name. name ≡ may_word (words_left operands.old)) }
+    ensures left { words_left operands.new ≡ later_words (words_left operands.old) }
+{
+    match operands.next() {
+        Some(placed) => match read_name(alloc, placed.word) {
+            Ok(name) => Ok(Some(name)),
+            Err(error) => Err(error),
+        },
+        None => Ok(None),
+    }
+}
+
+fn has_name(names: &[Name], word: &[u8]) -> bool
+    ensures { result ≡ list_any (bytes_eq word.now) names.now }
+{
+    names.iter().any(|name| word == name.bytes())
+}
+
+// Each name once.
+fn read_names(alloc: Global, operands: PlainsIter<'_>) -> Result<Names, AllocError>
+    ensures { IfOk result (λ names. names ≡ distinct (words_left operands.entry)) }
+{
+    let mut names = Vec::new(alloc);
+    for operand in operands {
+        if !has_name(&names, operand.word) {
+            names.push(read_name(alloc, operand.word)?)?;
+        }
+    }
+    Ok(Names::new(names))
+}
+
+fn has_text(kept: &[Vec<u8>], word: &[u8]) -> bool
+    ensures { result ≡ list_any (bytes_eq word.now) (texts kept.now) }
+{
+    has_bytes(kept, word)
+}
+
+fn has_bytes(kept: &[Vec<u8>], word: &[u8]) -> bool
+    ensures { result ≡ list_any (λ text. bytes_eq word.now text.items) kept.now }
+{
+    kept.iter().any(|text| word == text.as_slice())
+}
+
+// Each glob once.
+fn read_globs(alloc: Global, operands: PlainsIter<'_>) -> Result<Texts, AllocError>
+    ensures { IfOk result (λ globs. globs ≡ distinct (words_left operands.entry)) }
+{
+    let mut globs = Vec::new(alloc);
+    for operand in operands {
+        if !has_text(&globs, operand.word) {
+            globs.push(Vec::from_slice(alloc, operand.word)?)?;
+        }
+    }
+    Ok(Texts::new(globs))
+}
+
+// Each value as often as it stands.
+fn read_values(alloc: Global, operands: PlainsIter<'_>) -> Result<Texts, AllocError>
+    ensures { IfOk result (λ values. values ≡ words_left operands.entry) }
+{
+    let mut values = Vec::new(alloc);
+    for operand in operands {
+        values.push(Vec::from_slice(alloc, operand.word)?)?;
+    }
+    Ok(Texts::new(values))
+}
+
+fn read_pins(
+    alloc: Global,
+    with_all: bool,
+    operands: PlainsIter<'_>,
+) -> Result<PinAction, AllocError>
+    ensures { IfOk result (λ pins. pins ≡ pins_of with_all (words_left operands.entry)) }
+{
+    let mut operands = operands;
+    let pin = PinWord::read(operands.take_word());
+    read_pins_by(alloc, with_all, pin, operands)
+}
+
+fn read_pins_by(
+    alloc: Global,
+    with_all: bool,
+    pin: Option<PinWord>,
+    operands: PlainsIter<'_>,
+) -> Result<PinAction, AllocError>
+    ensures { IfOk result (λ pins. pins ≡ pins_by with_all pin (words_left operands.entry)) }
+{
+    let mut operands = operands;
+    match pin {
+        Some(PinWord::Add) => {
+            let tag = read_tag(alloc, operands.take_word())?;
+            let globs = read_globs(alloc, operands)?;
+            Ok(PinAction::Add { tag, globs })
+        }
+        Some(PinWord::Remove) => {
+            let tag = read_tag(alloc, operands.take_word())?;
+            let globs = read_globs(alloc, operands)?;
+            Ok(PinAction::Remove {
+                tag,
+                globs,
+                all: with_all,
+            })
+        }
+        _ => Ok(PinAction::Show),
+    }
+}
+
+fn read_install(
+    alloc: Global,
+    parts: PartsIter<'_>,
+    operands: PlainsIter<'_>,
+) -> Result<Action, AllocError>
+    ensures { IfOk result (λ read. read ≡ action_with (λ option. has_option option (parts_left parts.entry))
+        (words_left operands.entry) ActionName.Install) }
+{
+    Ok(Action::Install {
+        names: read_names(alloc, operands)?,
+        no_depends: has_option(OptionName::NoDepends, parts),
+        no_depends_at_all: has_option(OptionName::NoDependsAtAll, parts),
+        reinstall: has_option(OptionName::Reinstall, parts),
+    })
+}
+
+fn read_update(
+    alloc: Global,
+    parts: PartsIter<'_>,
+    operands: PlainsIter<'_>,
+) -> Result<Action, AllocError>
+    ensures { IfOk result (λ read. read ≡ action_with (λ option. has_option option (parts_left parts.entry))
+        (words_left operands.entry) ActionName.Update) }
+{
+    Ok(Action::Update {
+        names: read_names(alloc, operands)?,
+        all: has_option(OptionName::All, parts),
+        no_auto_install: has_option(OptionName::NoAutoInstall, parts),
+        no_auto_remove: has_option(OptionName::NoAutoRemove, parts),
+        reinstall_forcibly_removed: has_option(OptionName::ReinstallForciblyRemoved, parts),
+    })
+}
+
+fn read_restore(alloc: Global, operands: PlainsIter<'_>) -> Result<Action, AllocError>
+    ensures { IfOk result (λ read. read ≡ Action.Restore (may_word (words_left operands.entry))
+        (option_map (number_within 0 4294967295) (may_word (later_words (words_left operands.entry))))) }
+{
+    let mut operands = operands;
+    let name = take_name(alloc, &mut operands)?;
+    let revision = match operands.next() {
+        Some(placed) => Some(number_or_zero(0, u32::MAX, placed.word)),
+        None => None,
+    };
+    Ok(Action::Restore { name, revision })
+}
+
+fn read_setting(alloc: Global, operands: PlainsIter<'_>) -> Result<Action, AllocError>
+    ensures { IfOk result (λ read. read ≡ Action.Setting (may_word (words_left operands.entry))
+        (later_words (words_left operands.entry))) }
+{
+    let mut operands = operands;
+    let option = take_name(alloc, &mut operands)?;
+    let values = read_values(alloc, operands)?;
+    Ok(Action::Setting { option, values })
+}
+
+fn read_remove(
+    alloc: Global,
+    parts: PartsIter<'_>,
+    operands: PlainsIter<'_>,
+) -> Result<Action, AllocError>
+    ensures { IfOk result (λ read. read ≡ action_with (λ option. has_option option (parts_left parts.entry))
+        (words_left operands.entry) ActionName.Remove) }
+{
+    Ok(Action::Remove {
+        names: read_names(alloc, operands)?,
+        force: has_option(OptionName::Force, parts),
+    })
+}
+
+fn read_backup(
+    alloc: Global,
+    parts: PartsIter<'_>,
+    operands: PlainsIter<'_>,
+) -> Result<Action, AllocError>
+    ensures { IfOk result (λ read. read ≡ action_with (λ option. has_option option (parts_left parts.entry))
+        (words_left operands.entry) ActionName.Backup) }
+{
+    Ok(Action::Backup {
+        names: read_names(alloc, operands)?,
+        all: has_option(OptionName::All, parts),
+    })
+}
+
+fn read_pinning(
+    alloc: Global,
+    parts: PartsIter<'_>,
+    operands: PlainsIter<'_>,
+) -> Result<Action, AllocError>
+    ensures { IfOk result (λ read. read ≡ action_with (λ option. has_option option (parts_left parts.entry))
+        (words_left operands.entry) ActionName.Pinning) }
+{
+    let with_all = has_option(OptionName::All, parts);
+    let pins = read_pins(alloc, with_all, operands)?;
+    Ok(Action::Pinning { pins })
+}
+
+// The first operand, or an empty one where there is none.
+fn first_word<'a>(operands: PlainsIter<'a>) -> &'a [u8]
+    ensures { result.now ≡ first_word (words_left operands.entry) }
+{
+    let mut operands = operands;
+    operands.take_word()
+}
+
+fn first_name(alloc: Global, operands: PlainsIter<'_>) -> Result<Option<Name>, AllocError>
+    ensures { IfOk result (λ name. name ≡ may_word (words_left operands.entry)) }
+{
+    let mut operands = operands;
+    take_name(alloc, &mut operands)
+}
+
+// The action of a name, with the options among some parts and some operands.
+pub(crate) fn read_action(
+    alloc: Global,
+    action: ActionName,
+    parts: PartsIter<'_>,
+    operands: PlainsIter<'_>,
+) -> Result<Action, AllocError>
+    ensures { IfOk result (λ read. read ≡ action_with (λ option. has_option option (parts_left parts.entry))
+        (words_left operands.entry) action) }
+{
+    let first = first_word(operands);
+    match action {
+        ActionName::DumpTlpdb => Ok(Action::DumpTlpdb {
+            local: has_option(OptionName::Local, parts),
+        }),
+        ActionName::Info => Ok(Action::Info {
+            name: first_name(alloc, operands)?,
+        }),
+        ActionName::Search => Ok(Action::Search {
+            word: read_bytes(alloc, first)?,
+        }),
+        ActionName::Candidates => Ok(Action::Candidates {
+            name: read_name(alloc, first)?,
+        }),
+        ActionName::Check => Ok(Action::Check {
+            what: read_check(first),
+        }),
+        ActionName::Install => read_install(alloc, parts, operands),
+        ActionName::Update => read_update(alloc, parts, operands),
+        ActionName::Remove => read_remove(alloc, parts, operands),
+        ActionName::Backup => read_backup(alloc, parts, operands),
+        ActionName::Restore => read_restore(alloc, operands),
+        ActionName::Setting => read_setting(alloc, operands),
+        ActionName::Pinning => read_pinning(alloc, parts, operands),
+        ActionName::Expand => Ok(Action::Expand {
+            name: read_name(alloc, first)?,
+        }),
+        ActionName::Edit => Ok(Action::Edit),
+        ActionName::Build => Ok(Action::Build),
+        ActionName::Mirror => Ok(Action::Mirror),
+        ActionName::Lsr => Ok(Action::Lsr),
+        ActionName::Which => Ok(Action::Which {
+            word: read_bytes(alloc, first)?,
+        }),
+        ActionName::Shell => Ok(Action::Shell),
+        ActionName::GenerateMaster => Ok(Action::GenerateMaster {
+            count: number_or_zero(1, 1000, first),
+        }),
+    }
+}
