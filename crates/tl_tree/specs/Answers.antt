@@ -52,3 +52,15 @@ abbrev pub IsStepError : Planted → List Part → StepError → Type 0
 IsStepError tree parts stepping.HostFault = Unit {0}
 IsStepError tree parts stepping.NoMemory = Unit {0}
 IsStepError tree parts (stepping.TooLarge what limit) = IsTooLarge (entries_after parts tree.db) what limit
+
+-- the cause of a refusal before any call of the host, where the database would have these entries
+abbrev pub IsPlanError : List Object → StepError → Type 0
+IsPlanError db stepping.HostFault = ⊥
+IsPlanError db stepping.NoMemory = Unit {0}
+IsPlanError db (stepping.TooLarge what limit) = IsTooLarge db what limit
+
+-- an answer names a limit
+abbrev pub HasLimit : StepError → Type 0
+HasLimit stepping.HostFault = ⊥
+HasLimit stepping.NoMemory = ⊥
+HasLimit (stepping.TooLarge what limit) = Unit {0}

@@ -128,8 +128,8 @@ names_of files = map (λ (file : Name × List ℕ). file.0) files
 
 -- what a change is: no name below the journal's folder or that folder leaves or comes, no name comes twice, and its label is
 -- one acknowledged line
-pub record IsChange (db : List Object) (parts : List Part) (label : List ℕ) : Type 0 where
+pub record IsChange (db : List Object) (parts : List Part) (line : List ℕ) : Type 0 where
   pub leaves : AllByRecursion (λ (name : Name). is_outside name ≡ true) (leaving db parts)
   pub comes : AllByRecursion (λ (name : Name). is_outside name ≡ true) (names_of (coming parts))
   pub apart : AllPairs (λ a b. a ≢ b) (names_of (written parts (entries_after parts db)))
-  pub label : IsLabel label
+  pub label : IsLabel line

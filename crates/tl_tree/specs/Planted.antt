@@ -1,13 +1,18 @@
 -- What an installed tree is seen as.
-use Rattle.std.specs.Prelude.{ℕ, List, [], unwrap_or, codes}
+use Rattle.std.specs.Prelude.{ℕ, List, [], unwrap_or, codes, refl}
+use Rattle.std.specs.Coded.{Coded, code_by, coded×, coded_list}
 use Rattle.tl_model.specs.Volume.{Name, Volume, at}
-use Rattle.tl_model.specs.Seen.{Seen}
+use Rattle.tl_model.specs.Seen.{Seen, seen_code}
 use Rattle.tl_object.specs.declared.object.Object.{Object}
 
 -- the host of a tree, and the entries of its database
 pub record Planted : Type 0 where
   pub seen : Seen
   pub db : List Object
+
+-- by which a tree can be the value of a type, where an entry can
+abbrev pub planted_code : Coded Object → Coded Planted
+planted_code object_code = code_by (Seen × List Object) (coded× seen_code (coded_list object_code)) (λ p. (p.seen, p.db)) (λ p. record { seen = p.0; db = p.1 }) (λ _. refl)
 
 -- the database of a tree
 abbrev pub database : Name

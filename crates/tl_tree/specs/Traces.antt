@@ -1,6 +1,6 @@
 -- What the journal's clauses say of a run: a call between two steps is a run without events, a commit and what follows it is a
 -- step.
-use Rattle.std.specs.Prelude.{◌≡◌, ◌⊎◌, ◌≤◌, ℕ, List, [], ◌∷◌, ◌++◌, take, drop, Some, refl}
+use Rattle.std.specs.Prelude.{◌≡◌, ◌⊎◌, ◌≤◌, ℕ, zero, suc, List, [], ◌∷◌, ◌++◌, take, drop, Some, refl}
 use Rattle.std.proofs.Common.{sym, ◌∙◌, ap, subst, inl, inr, arith, append_assoc}
 use Rattle.std.proofs.lemmas.List.{append-nil, take-append-drop}
 use Rattle.tl_model.specs.Volume.{Volume}
@@ -34,11 +34,15 @@ stays_pictures : (first last : Seen) (tree : Volume) → stand first.present.hel
 stays_pictures first last tree stood stays =
     since_weaker first last _ _ (λ image said here. still_cut first tree image said (here.0 ∙ stood) here.1) stays
 
+no_bytes : (n : ℕ) → let none : List ℕ = [] in take n none ≡ none
+no_bytes zero = refl
+no_bytes (suc n) = refl
+
 resumed_cut : (first : Seen) (tree image : Volume) (said : List ℕ) → stand first.present.held ≡ Some tree → IsResumed first image said → IsCut stand first [] tree image said
 resumed_cut first tree image said stood (inl here) = still_cut first tree image said (here.0 ∙ stood) here.1
 resumed_cut first tree image said stood (inr picture) = (
   [],
-  picture.words,
+  picture.words ∙ ap (λ (l : List ℕ). first.present.said ++ l) (no_bytes picture.count),
   ([], refl),
   inr (acks-nil, record { others = picture.others; count = 0; words = sym (append-nil first.present.said) }),
 )
@@ -167,3 +171,48 @@ module _ (first : Seen) (tree next : Volume) (label : List ℕ) (is_label : IsLa
     stop = front_stop count last.present.held stands;
     pictures = pictures;
   }
+
+  -- while records are staged, whole or cut off
+  pub staged_pictures : (mid : Seen) → stand first.present.held ≡ Some tree → Stays first mid → Pictures stand first mid tree step
+  staged_pictures mid stood stays = since_weaker first mid _ _ (λ image said here. silent_cut image said (inl (here.0 ∙ stood)) here.1) stays
+
+  -- from then on, up to the records' being carried out
+  pub made_pictures : (mid last : Seen) (rs : List Record) → tree_of mid.present.held ≡ tree → after rs tree ≡ next → mid.present.said ≡ first.present.said → Pictures stand first mid tree step
+      → Since mid last (IsBeforeOrAfter rs mid) → Pictures stand first last tree step
+  made_pictures mid last rs here there said far since = since_join first mid last _ far
+      (since_weaker mid last _ _ (λ image words picture. silent_cut image words (elim picture.0 [
+        | inl stands ↦ inl (stands ∙ ap Some here)
+        | inr stands ↦ inr (stands ∙ ap Some (ap (λ (v : Volume). after rs v) here ∙ there))
+      ]) (picture.1 ∙ said)) since)
+
+  -- the call was cut off with none of the label said
+  pub silent_is_cut : (last : Seen) → ((stand last.present.held ≡ Some tree) ⊎ (stand last.present.held ≡ Some next)) → last.present.said ≡ first.present.said → Pictures stand first last tree step
+      → Cut stand first last tree step
+  silent_is_cut last (inl stands) said pictures = record {
+    more = [];
+    said = said ∙ sym (append-nil first.present.said);
+    front = (label ++ [], refl);
+    stop = record { steps = 0; within = omega arith; stands = stands; count = record { least = omega (arith, acks-nil); most = omega arith } };
+    pictures = pictures;
+  }
+  silent_is_cut last (inr stands) said pictures = record {
+    more = [];
+    said = said ∙ sym (append-nil first.present.said);
+    front = (label ++ [], refl);
+    stop = record { steps = 1; within = omega arith; stands = stands; count = record { least = omega (arith, acks-nil); most = omega arith } };
+    pictures = pictures;
+  }
+
+  pub staged_cut : (last : Seen) → stand first.present.held ≡ Some tree → Stays first last → Cut stand first last tree step
+  staged_cut last stood stays =
+      let here = reads_as first last _ stays in
+      silent_is_cut last (inl (here.0 ∙ stood)) here.1 (staged_pictures last stood stays)
+
+  pub halted_cut : (mid last : Seen) (rs : List Record) → tree_of mid.present.held ≡ tree → after rs tree ≡ next → mid.present.said ≡ first.present.said → Pictures stand first mid tree step
+      → Since mid last (IsBeforeOrAfter rs mid) → Cut stand first last tree step
+  halted_cut mid last rs here there said far since =
+      let at_last = reads_as mid last _ since in
+      silent_is_cut last (elim at_last.0 [
+        | inl stands ↦ inl (stands ∙ ap Some here)
+        | inr stands ↦ inr (stands ∙ ap Some (ap (λ (v : Volume). after rs v) here ∙ there))
+      ]) (at_last.1 ∙ said) (made_pictures mid last rs here there said far since)

@@ -1,3 +1,4 @@
+use std::alloc::AllocError;
 use tl_db::What;
 use tl_object::LineKind;
 
@@ -23,4 +24,15 @@ pub enum StepError {
     HostFault,
     /// Memory ran out, before the change was made stable.
     NoMemory,
+}
+
+impl From<AllocError> for StepError {
+    ghost use Rattle.std.specs.Prelude.{◌≡◌};
+    ghost use Rattle.tl_tree.specs.declared.error.StepError.TheVariants.{NoMemory};
+
+    ghost from_gives = { λ _ e. e ≡ NoMemory };
+
+    fn from(_error: AllocError) -> StepError {
+        StepError::NoMemory
+    }
 }

@@ -26,9 +26,12 @@ pub struct Tree<H: Host> {
 }
 
 impl<H: Host> Model for Tree<H> {
-    ghost use Rattle.tl_tree.specs.Planted.{Planted};
+    ghost use Rattle.tl_tree.specs.Planted.{Planted, planted_code};
+    ghost use Rattle.tl_object.specs.contracts.object.Object as object;
 
     ghost Value = { Planted };
+
+    ghost coded = { planted_code object.the_row.coded };
 
     ghost view = { λ t. record { seen = t.journal; db = t.db } };
 }
@@ -100,9 +103,12 @@ impl<H: Host> Tree<H> {
         ensures later_err { IfErr result (λ lost. self.seen.faults ≤ (H.seen lost.host).faults) }
         ensures cause { IfErr result (λ lost. lost.fault ≡ StepFault → Rose self.seen.faults (H.seen lost.host).faults) }
     {
-        let _ = (alloc, change);
+        let _ = alloc;
+        let _ = change;
+        let journal = self.journal;
+        journal.stands();
         Err(Lost {
-            host: self.journal.into_host(),
+            host: journal.into_host(),
             fault: StepError::NoMemory,
         })
     }
