@@ -1,0 +1,10 @@
+pub mod Absences
+pub mod AfterParts
+pub mod Members
+pub mod Order
+pub mod Owning
+pub mod Performs
+pub mod Runs
+pub mod Steps
+pub mod Trees
+pub mod Whole

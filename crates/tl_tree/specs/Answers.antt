@@ -1,6 +1,5 @@
 -- What the answers of a tree's calls say.
-use Rattle.std.specs.Prelude.{◌≡◌, ◌≤◌, ◌<◌, ℕ, List, [], ◌∷◌, length, Result, Ok, Err}
-use Rattle.tl_model.specs.Volume.{Volume}
+use Rattle.std.specs.Prelude.{◌≡◌, ◌≤◌, ◌<◌, ◌+◌, ℕ, true, List, [], ◌∷◌, length, Err}
 use Rattle.tl_model.specs.Seen.{Seen}
 use Rattle.tl_model.specs.Trace.{Event, Step, Trace, Cut}
 use Rattle.tl_object.specs.declared.object.Object.{Object}
@@ -10,7 +9,7 @@ use Rattle.tl_db.specs.declared.fault.What.TheVariants as quantities
 use Rattle.tl_db.specs.declared.fault.What.{What}
 use Rattle.tl_journal_text.specs.Stand.{stand, tree_of}
 use Rattle.tl_tree.specs.Planted.{Planted}
-use Rattle.tl_tree.specs.Changes.{entries_after, changed}
+use Rattle.tl_tree.specs.Changes.{entries_after, has_entries, changed}
 use Rattle.tl_tree.specs.declared.change.Part.{Part}
 use Rattle.tl_tree.specs.declared.error.TreeError.{TreeError}
 use Rattle.tl_tree.specs.declared.error.TreeError.TheVariants as loading
@@ -64,3 +63,19 @@ abbrev pub HasLimit : StepError → Type 0
 HasLimit stepping.HostFault = ⊥
 HasLimit stepping.NoMemory = ⊥
 HasLimit (stepping.TooLarge what limit) = Unit {0}
+
+-- where a change speaks of an entry, the database that it leaves is within its limits
+abbrev pub IsAllowed : Planted → List Part → Type 0
+IsAllowed tree parts = has_entries parts ≡ true → IsWithin (entries_after parts tree.db)
+
+-- a step that was cut off by a fault had begun: its database was within its limits
+abbrev pub HasBegun : Planted → List Part → StepError → Type 0
+HasBegun tree parts stepping.HostFault = IsAllowed tree parts
+HasBegun tree parts stepping.NoMemory = Unit {0}
+HasBegun tree parts (stepping.TooLarge what limit) = Unit {0}
+
+-- a step that was cut off by a fault synced twice at most, and one that wasn't made for another cause synced nothing
+abbrev pub IsUnsynced : StepError → ℕ → ℕ → Type 0
+IsUnsynced stepping.HostFault before now = now ≤ before + 2
+IsUnsynced stepping.NoMemory before now = now ≡ before
+IsUnsynced (stepping.TooLarge what limit) before now = now ≡ before

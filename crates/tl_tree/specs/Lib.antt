@@ -1,4 +1,8 @@
-pub mod Traces
-pub mod Planted
-pub mod Changes
 pub mod Answers
+pub mod Changes
+pub mod Names
+pub mod Nexts
+pub mod Owners
+pub mod Planted
+pub mod Staged
+pub mod Traces

@@ -10,6 +10,10 @@ pub record Planted : Type 0 where
   pub seen : Seen
   pub db : List Object
 
+-- a tree of this host with these entries
+abbrev pub planted : Seen → List Object → Planted
+planted seen db = record { seen = seen; db = db }
+
 -- by which a tree can be the value of a type, where an entry can
 abbrev pub planted_code : Coded Object → Coded Planted
 planted_code object_code = code_by (Seen × List Object) (coded× seen_code (coded_list object_code)) (λ p. (p.seen, p.db)) (λ p. record { seen = p.0; db = p.1 }) (λ _. refl)

@@ -1,14 +1,14 @@
 -- What the journal's clauses say of a run: a call between two steps is a run without events, a commit and what follows it is a
 -- step.
-use Rattle.std.specs.Prelude.{◌≡◌, ◌⊎◌, ◌≤◌, ℕ, zero, suc, List, [], ◌∷◌, ◌++◌, take, drop, Some, refl}
+use Rattle.std.specs.Prelude.{◌≡◌, ◌⊎◌, ℕ, zero, suc, List, [], ◌∷◌, ◌++◌, take, drop, Some, refl}
 use Rattle.std.proofs.Common.{sym, ◌∙◌, ap, subst, inl, inr, arith, append_assoc}
 use Rattle.std.proofs.lemmas.List.{append-nil, take-append-drop}
 use Rattle.tl_model.specs.Volume.{Volume}
-use Rattle.tl_model.specs.Seen.{Seen, Since, IsPicture, at_rest}
-use Rattle.tl_model.specs.Pictures.{since_weaker, since_join, since_start, reads_back}
-use Rattle.tl_model.specs.Acks.{acks, acks-nil, acks-take-le, IsLabel}
-use Rattle.tl_model.specs.Trace.{Event, Step, tree_after, IsStop, IsCut, Pictures, Trace, Cut, Paused}
-use Rattle.tl_model.specs.Joins.{trace_join, cut_join, paused_rest, paused_rest_cut}
+use Rattle.tl_model.specs.Seen.{Seen, Since}
+use Rattle.tl_model.specs.Pictures.{since_weaker, since_join, reads_back}
+use Rattle.tl_model.specs.Acks.{acks-nil, acks-take-le, IsLabel}
+use Rattle.tl_model.specs.Trace.{Event, Step, tree_after, IsStop, IsCut, Pictures, Trace, Cut}
+use Rattle.tl_model.specs.Joins.{trace_join, cut_join}
 use Rattle.tl_journal_text.specs.Records.{Record, after}
 use Rattle.tl_journal_text.specs.Stand.{stand, tree_of, Stays, IsBeforeOrAfter, IsResumed, SaysFront}
 

@@ -4,8 +4,15 @@
 //! without it.
 #![tactic(auto)]
 
+mod arrange;
 mod change;
+mod entries;
 mod error;
+mod leaving;
+mod load;
+mod look;
+mod own;
+mod stage;
 mod tree;
 
 pub use change::{Change, Part, PartList};

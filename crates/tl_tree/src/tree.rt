@@ -1,28 +1,35 @@
-ghost use Rattle.std.specs.Prelude.{◌≡◌, ◌≤◌, ◌+◌, ◌∷◌, [], IfOk, IfErr, IsErrOf, is_ok};
+ghost use Rattle.std.specs.Prelude.{◌≡◌, ◌≤◌, ◌+◌, ◌∷◌, [], IfOk, IfErr, is_ok, option_copied};
 ghost use Rattle.tl_model.specs.Causes.{HasCause, Rose};
 ghost use Rattle.tl_model.specs.Seen.{Told, Quiet, Says};
 ghost use Rattle.tl_model.specs.Trace.{Trace};
 ghost use Rattle.tl_journal_text.specs.Stand.{stand, tree_of};
 ghost use Rattle.tl_db.specs.Reading.{IsRead};
+ghost use Rattle.tl_tree.specs.Owners.{owner_of};
 ghost use Rattle.tl_tree.specs.Planted.{database_text};
 ghost use Rattle.tl_tree.specs.Changes.{IsChange, entries_after, changed};
-ghost use Rattle.tl_tree.specs.Answers.{IsTreeError, IsWithin, IsLostStep, IsStepError, step_of};
+ghost use Rattle.tl_tree.specs.Answers.{IsTreeError, IsWithin, IsAllowed, HasBegun, IsUnsynced, IsLostStep, IsStepError, step_of};
 ghost use Rattle.tl_tree.specs.declared.error.TreeError.TheVariants.{HostFault as LoadFault};
 ghost use Rattle.tl_tree.specs.declared.error.StepError.TheVariants.{HostFault as StepFault};
 
+use crate::arrange::arrange;
 use crate::change::Change;
+use crate::entries::plan_change;
 use crate::error::{StepError, TreeError};
+use crate::load::read_entries;
+use crate::own::owner;
+use crate::stage::carry_out;
 use std::alloc::Global;
 use std::marker::Model;
 use tl_db::Db;
 use tl_host::{Failed, Host};
 use tl_journal::{Clean, Lost};
+use tl_path::{Name, Path};
 
 /// An installed tree: a volume at rest, and the entries of its database.
 #[derive(Drop)]
 pub struct Tree<H: Host> {
-    journal: Clean<H>,
-    db: Db,
+    pub(crate) journal: Clean<H>,
+    pub(crate) db: Db,
 }
 
 impl<H: Host> Model for Tree<H> {
@@ -49,11 +56,14 @@ impl<H: Host> Tree<H> {
         ensures later_err { IfErr result (λ lost. journal.faults ≤ (H.seen lost.host).faults) }
         ensures cause { IfErr result (λ lost. lost.fault ≡ LoadFault → Rose journal.faults (H.seen lost.host).faults) }
     {
-        let _ = alloc;
-        Err(Lost {
-            host: journal.into_host(),
-            fault: TreeError::NoMemory,
-        })
+        let mut journal = journal;
+        match read_entries(alloc, &mut journal) {
+            Ok(db) => Ok(Tree { journal, db }),
+            Err(fault) => Err(Lost {
+                host: journal.into_host(),
+                fault,
+            }),
+        }
     }
 
     /// The entries of the database. Takes no memory.
@@ -61,6 +71,13 @@ impl<H: Host> Tree<H> {
         ensures { result.now ≡ self.now.db }
     {
         &self.db
+    }
+
+    /// The least name of an entry among whose files the path is; `None` exactly where no entry has it. Takes no memory.
+    pub fn owner(&self, path: &Path) -> Option<&Name>
+        ensures { option_copied result ≡ owner_of path.now self.now.db }
+    {
+        owner(&self.db, path)
     }
 
     /// Gives the volume back as it is, at rest.
@@ -91,6 +108,7 @@ impl<H: Host> Tree<H> {
         requires { IsChange self.db change.now.parts change.now.label }
         ensures db { IfOk result (λ tree. tree.db ≡ entries_after change.now.parts self.db) }
         ensures within { IfOk result (λ tree. IsWithin self.db → IsWithin tree.db) }
+        ensures allowed { IfOk result (λ tree. IsAllowed self change.now.parts) }
         ensures tree { Told H.tells (IfOk result (λ tree. tree_of tree.seen.present.held
             ≡ changed self.db change.now.parts (tree_of self.seen.present.held))) }
         ensures trace { Told H.tells (IfOk result (λ tree. Trace stand self.seen tree.seen (tree_of self.seen.present.held)
@@ -98,18 +116,37 @@ impl<H: Host> Tree<H> {
         ensures syncs { Told H.tells (IfOk result (λ tree. tree.seen.syncs ≤ self.seen.syncs + 2)) }
         ensures later { IfOk result (λ tree. self.seen.faults ≤ tree.seen.faults) }
         ensures error { IfErr result (λ lost. IsStepError self change.now.parts lost.fault) }
+        ensures begun { IfErr result (λ lost. HasBegun self change.now.parts lost.fault) }
+        ensures unsynced { Told H.tells (IfErr result (λ lost. IsUnsynced lost.fault self.seen.syncs (H.seen lost.host).syncs)) }
         ensures lost { Told H.tells (IfErr result (λ lost. IsLostStep self change.now.parts change.now.label lost.fault (H.seen lost.host))) }
         ensures syncs_err { Told H.tells (IfErr result (λ lost. (H.seen lost.host).syncs ≤ self.seen.syncs + 2)) }
         ensures later_err { IfErr result (λ lost. self.seen.faults ≤ (H.seen lost.host).faults) }
         ensures cause { IfErr result (λ lost. lost.fault ≡ StepFault → Rose self.seen.faults (H.seen lost.host).faults) }
     {
-        let _ = alloc;
-        let _ = change;
         let journal = self.journal;
+        let mut db = self.db;
         journal.stands();
-        Err(Lost {
-            host: journal.into_host(),
-            fault: StepError::NoMemory,
-        })
+        let parts = change.parts.as_slice();
+        let plan = match plan_change(alloc, &mut db, parts) {
+            Ok(plan) => plan,
+            Err(fault) => return Err(Lost {
+                host: journal.into_host(),
+                fault,
+            }),
+        };
+        let work = match arrange(alloc, plan.names, parts, plan.files.as_slice()) {
+            Ok(work) => work,
+            Err(_) => return Err(Lost {
+                host: journal.into_host(),
+                fault: StepError::NoMemory,
+            }),
+        };
+        match carry_out(journal, &work, change.label.as_slice()) {
+            Ok(journal) => Ok(Tree { journal, db }),
+            Err(lost) => Err(Lost {
+                host: lost.host,
+                fault: StepError::HostFault,
+            }),
+        }
     }
 }

@@ -1,15 +1,57 @@
-use Rattle.std.proofs.Common.{[], sym, subst}
-use Rattle.tl_model.specs.Seen.{Seen}
-use Rattle.tl_model.specs.Trace.{Trace}
-use Rattle.tl_journal_text.specs.Stand.{stand, tree_of}
-use Rattle.tl_tree.specs.Planted.{Planted}
-use Rattle.tl_tree.specs.Traces.{stays_trace}
+use Rattle.std.proofs.Common.{◌∙◌, ap, List}
+use Rattle.std.specs.Prelude.{map}
+use Rattle.tl_file.specs.declared.file.FileBytes.{FileBytes}
+use Rattle.tl_tree.specs.Changes.{named_bytes}
+use Rattle.tl_tree.specs.Staged.{files_of}
+use Rattle.tl_tree.proofs.Performs.{still, plan_lost, names_may_go, files_may_come, tree_is, trace_is, cut_is, within_is}
 use Rattle.tl_tree.proofs.tree.Tree.step.Goals as goal
 
-pub returns-clause-lost : goal.returns-clause-lost
-returns-clause-lost g c t =
-    let journal = c.self.inside.journal in
-    let tree = tree_of journal.present.held in
-    let still : Trace stand journal journal tree [] = stays_trace journal journal tree (c.stands.ensures.tree t) (c.stands.ensures.stays t) in
-    let given : Trace stand journal (g.H.Host.seen c.into_host.result) tree [] = subst (λ (last : Seen). Trace stand journal last tree []) (sym c.into_host.ensures) still in
-    subst (λ (p : Planted). Trace stand p.seen (g.H.Host.seen c.into_host.result) (tree_of p.seen.present.held) []) c.self.view_is given
+pub returns-in-Err-clause-lost : goal.returns-in-Err-clause-lost
+returns-in-Err-clause-lost g c t =
+    plan_lost c.args.self c.args.change.now.parts c.args.change.now.label _ c.in-Err.fault (g.H.Host.seen c.into_host.result) c.in-Err.ensures.error
+    (still c.args.self c.self.inside.journal c.self.inside.db (g.H.Host.seen c.into_host.result) c.self.view_is (c.stands.ensures.tree t) (c.stands.ensures.stays t) c.into_host.ensures)
+
+pub arrange-requires : goal.arrange-requires
+arrange-requires g c =
+    names_may_go c.args.self c.args.change.now.parts c.args.change.now.label c.requires c.self.inside.journal c.self.inside.db c.self.view_is c.as_slice-parts.result.now c.as_slice-parts.ensures
+    c.in-Ok.plan.names.items c.in-Ok.ensures.leaving
+
+pub returns-in-Err-arrange-clause-lost : goal.returns-in-Err-arrange-clause-lost
+returns-in-Err-arrange-clause-lost g c t =
+    still c.args.self c.self.inside.journal c.self.inside.db (g.H.Host.seen c.into_host-in-Err-arrange.result) c.self.view_is (c.stands.ensures.tree t) (c.stands.ensures.stays t) c.into_host-in-Err-arrange.ensures
+
+pub carry_out-requires-clause-files : goal.carry_out-requires-clause-files
+carry_out-requires-clause-files g c =
+    files_may_come c.args.self c.args.change.now.parts c.args.change.now.label c.requires c.self.inside.journal c.self.inside.db c.self.view_is c.as_slice-parts.result.now c.as_slice-parts.ensures
+    c.plan_change.new.db c.in-Ok.plan.names.items (map named_bytes c.as_slice.result.now) (files_of c.in-Ok-arrange.work.writes.items) c.in-Ok.ensures.leaving c.in-Ok.ensures.entries
+    (ap (λ (fs : List FileBytes). map named_bytes fs) c.as_slice.ensures.value ∙ c.in-Ok.ensures.made) c.in-Ok-arrange.ensures.writes
+
+pub returns-in-Ok-carry_out-clause-within : goal.returns-in-Ok-carry_out-clause-within
+returns-in-Ok-carry_out-clause-within g c within =
+    within_is c.args.self c.args.change.now.parts c.args.change.now.label c.requires c.self.inside.journal c.self.inside.db c.self.view_is c.as_slice-parts.result.now c.as_slice-parts.ensures
+    c.plan_change.new.db c.in-Ok.ensures.entries c.in-Ok.ensures.within within
+
+pub returns-in-Ok-carry_out-clause-tree : goal.returns-in-Ok-carry_out-clause-tree
+returns-in-Ok-carry_out-clause-tree g c t =
+    c.in-Ok-carry_out.ensures.tree t
+    ∙ tree_is c.args.self c.args.change.now.parts c.args.change.now.label c.requires c.self.inside.journal c.self.inside.db c.self.view_is c.as_slice-parts.result.now c.as_slice-parts.ensures
+    c.plan_change.new.db c.in-Ok.plan.names.items (map named_bytes c.as_slice.result.now) (files_of c.in-Ok-arrange.work.writes.items) c.in-Ok.ensures.leaving c.in-Ok.ensures.entries
+    (ap (λ (fs : List FileBytes). map named_bytes fs) c.as_slice.ensures.value ∙ c.in-Ok.ensures.made) c.in-Ok-arrange.ensures.writes c.in-Ok-arrange.work.removes.items c.in-Ok-arrange.ensures.removes
+
+pub returns-in-Ok-carry_out-clause-trace : goal.returns-in-Ok-carry_out-clause-trace
+returns-in-Ok-carry_out-clause-trace g c t =
+    trace_is c.args.self c.args.change.now.parts c.args.change.now.label c.requires c.self.inside.journal c.self.inside.db c.self.view_is c.as_slice-parts.result.now c.as_slice-parts.ensures
+    c.in-Ok-carry_out.journal _ c.as_slice-2.result.now
+    (tree_is c.args.self c.args.change.now.parts c.args.change.now.label c.requires c.self.inside.journal c.self.inside.db c.self.view_is c.as_slice-parts.result.now c.as_slice-parts.ensures
+    c.plan_change.new.db c.in-Ok.plan.names.items (map named_bytes c.as_slice.result.now) (files_of c.in-Ok-arrange.work.writes.items) c.in-Ok.ensures.leaving c.in-Ok.ensures.entries
+    (ap (λ (fs : List FileBytes). map named_bytes fs) c.as_slice.ensures.value ∙ c.in-Ok.ensures.made) c.in-Ok-arrange.ensures.writes c.in-Ok-arrange.work.removes.items c.in-Ok-arrange.ensures.removes)
+    c.as_slice-2.ensures (c.in-Ok-carry_out.ensures.trace t)
+
+pub returns-in-Err-carry_out-clause-lost : goal.returns-in-Err-carry_out-clause-lost
+returns-in-Err-carry_out-clause-lost g c t =
+    cut_is c.args.self c.args.change.now.parts c.args.change.now.label c.requires c.self.inside.journal c.self.inside.db c.self.view_is c.as_slice-parts.result.now c.as_slice-parts.ensures
+    (g.H.Host.seen c.in-Err-carry_out.lost.host) _ c.as_slice-2.result.now
+    (tree_is c.args.self c.args.change.now.parts c.args.change.now.label c.requires c.self.inside.journal c.self.inside.db c.self.view_is c.as_slice-parts.result.now c.as_slice-parts.ensures
+    c.plan_change.new.db c.in-Ok.plan.names.items (map named_bytes c.as_slice.result.now) (files_of c.in-Ok-arrange.work.writes.items) c.in-Ok.ensures.leaving c.in-Ok.ensures.entries
+    (ap (λ (fs : List FileBytes). map named_bytes fs) c.as_slice.ensures.value ∙ c.in-Ok.ensures.made) c.in-Ok-arrange.ensures.writes c.in-Ok-arrange.work.removes.items c.in-Ok-arrange.ensures.removes)
+    c.as_slice-2.ensures (c.in-Err-carry_out.ensures.cut t)
