@@ -14,6 +14,7 @@ use Rattle.tl_journal_text.specs.Records.{Record, Fits}
 use Rattle.tl_journal_text.specs.Body.{reading, Whole, records_of, records_in}
 use Rattle.tl_journal_text.specs.Stand.{bytes_at, stand, Stays, IsResumed, SaysFront}
 use Rattle.tl_journal_text.proofs.Turns.{all_fit}
+use Rattle.tl_journal_text.proofs.Trees.{stand_open}
 use Rattle.tl_journal.specs.States.{IsLive, IsSettled, Keeps, pending}
 use Rattle.tl_journal.specs.Reading.{Part, IsPartOf, body_at}
 use Rattle.tl_journal.proofs.Live.{nothing_more, pending_open, keeps_start, keeps_quiet, keeps_join}
@@ -58,6 +59,13 @@ live_from s slot rs opened whole small settled =
   where
     some_is : (x y : Slot) → Some x ≡ Some y → x ≡ y
     some_is x y e = cc
+
+-- a volume whose open gate has a whole body before it stands for something
+pub whole_stands : {P : Type 0} (s : Seen) (slot : Slot) (rs : List Record) → open_slot s.present.held ≡ Some slot → reading (body_at slot s) ≡ Whole rs → stand s.present.held ≡ None → P
+whole_stands s slot rs opened whole none = absurd (some_none _ (sym (stand_open s.present.held slot rs opened (ap records_in whole)) ∙ none))
+  where
+    some_none : (v : Volume) → Some v ≡ None → ⊥
+    some_none v e = cc
 
 -- ---- pictures
 

@@ -1,5 +1,5 @@
 // Recovery.
-ghost use Rattle.std.specs.Prelude.{◌≡◌, ◌≤◌, ◌+◌, IfOk, IfErr, OnOk, Some, is_some};
+ghost use Rattle.std.specs.Prelude.{◌≡◌, ◌≤◌, ◌+◌, IfOk, IfErr, OnOk, Some, None, is_some};
 ghost use Rattle.tl_model.specs.Causes.{Rose};
 ghost use Rattle.tl_model.specs.Seen.{Told, Since};
 ghost use Rattle.tl_journal_text.specs.Slots.{open_slot};
@@ -29,7 +29,8 @@ impl Journal {
     /// Makes the volume what it stands for. It may itself be stopped at any moment. It syncs once, at its start.
     ///
     /// `BadJournal` comes exactly where the volume stands for nothing, at the place of the first field that is cut or
-    /// wrong; no name has changed then. `HostFault` comes only where the host's faults rose.
+    /// wrong. No name changes where the volume stands for nothing, whatever the answer. `HostFault` comes only where the
+    /// host's faults rose.
     pub fn recover<H: Host>(host: H) -> Result<Recovered<H>, Lost<H, RecoverError>>
         ensures tree { Told H.tells (IfOk result (λ r. stand (H.seen host).present.held ≡ Some (tree_of r.journal.present.held))) }
         ensures said { Told H.tells (IfOk result (λ r. r.journal.present.said ≡ (H.seen host).present.said)) }
@@ -38,6 +39,7 @@ impl Journal {
         ensures syncs { Told H.tells (IfOk result (λ r. r.journal.syncs ≤ (H.seen host).syncs + 1)) }
         ensures later { IfOk result (λ r. (H.seen host).faults ≤ r.journal.faults) }
         ensures bad { Told H.tells (IfErr result (λ lost. IsFault (H.seen host) (H.seen lost.host) lost.fault)) }
+        ensures kept { Told H.tells (stand (H.seen host).present.held ≡ None → IfErr result (λ lost. (H.seen lost.host).present.held ≡ (H.seen host).present.held)) }
         ensures stand_err { Told H.tells (IfErr result (λ lost. stand (H.seen lost.host).present.held ≡ stand (H.seen host).present.held)) }
         ensures said_err { Told H.tells (IfErr result (λ lost. (H.seen lost.host).present.said ≡ (H.seen host).present.said)) }
         ensures pictures_err { Told H.tells (IfErr result (λ lost. Since (H.seen host) (H.seen lost.host) (IsResumed (H.seen host)))) }

@@ -105,6 +105,7 @@ fn finish<H: Host>(host: &mut H, slot: Slot) -> Result<(), RecoverError>
     ensures later { (H.seen host.old).faults ≤ (H.seen host.new).faults }
     ensures cause { IfErr result (λ e. e ≡ HostFault → Rose (H.seen host.old).faults (H.seen host.new).faults) }
     ensures bad { Told H.tells (IfErr result (IsFault (H.seen host.old) (H.seen host.new))) }
+    ensures kept { Told H.tells (stand (H.seen host.old).present.held ≡ None → (H.seen host.new).present.held ≡ (H.seen host.old).present.held) }
     ensures clean { Told H.tells (OnOk result (IsClean (H.seen host.new).present)) }
     ensures open_at { Told H.tells (OnOk result (open_slot (H.seen host.new).present.held ≡ Some slot)) }
     ensures stays { Told H.tells (Stays (H.seen host.old) (H.seen host.new)) }
@@ -124,6 +125,7 @@ pub fn resume<H: Host>(host: &mut H) -> Result<Option<Slot>, RecoverError>
     ensures later { (H.seen host.old).faults ≤ (H.seen host.new).faults }
     ensures cause { IfErr result (λ e. e ≡ HostFault → Rose (H.seen host.old).faults (H.seen host.new).faults) }
     ensures bad { Told H.tells (IfErr result (IsFault (H.seen host.old) (H.seen host.new))) }
+    ensures kept { Told H.tells (stand (H.seen host.old).present.held ≡ None → (H.seen host.new).present.held ≡ (H.seen host.old).present.held) }
     ensures clean { Told H.tells (OnOk result (IsClean (H.seen host.new).present)) }
     ensures opened { Told H.tells (IfOk result (λ opened. (open_slot (H.seen host.new).present.held ≡ opened) × (opened ≡ open_slot (H.seen host.old).present.held))) }
     ensures pictures { Told H.tells (Since (H.seen host.old) (H.seen host.new) (IsResumed (H.seen host.old))) }

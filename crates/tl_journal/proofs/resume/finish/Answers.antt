@@ -9,7 +9,7 @@ use Rattle.tl_journal_text.proofs.Trees.{fault_open}
 use Rattle.tl_journal.specs.Reading.{body_at}
 use Rattle.tl_journal.proofs.Live.{same_open}
 use Rattle.tl_journal.proofs.Pieces.{same_body_at}
-use Rattle.tl_journal.proofs.Resumed.{live_quiet, open_quiet, live_from, settled_start, stays_join, none_whole}
+use Rattle.tl_journal.proofs.Resumed.{live_quiet, open_quiet, live_from, settled_start, stays_join, none_whole, whole_stands}
 use Rattle.tl_journal.proofs.resume.finish.Goals as goal
 
 pub returns-in_err-body-clause-stays : goal.returns-in_err-body-clause-stays
@@ -74,3 +74,28 @@ returns-clause-open_at g c t =
     let s = g.H.Host.seen in
     same_open (s c.steps.new.host).present.held (s c.fault.new.host).present.held (c.steps.ensures.keeps t).apart
     ∙ open_quiet (s c.args.host.now) _ _ (quiet_join _ _ _ (c.body_of.ensures.quiet t) (c.fault.ensures.quiet t)) (c.requires.opened t)
+
+pub returns-in_err-body-clause-kept : goal.returns-in_err-body-clause-kept
+returns-in_err-body-clause-kept g c t none = ap (λ (m : Moment). m.held) (c.body_of.ensures.quiet t).present
+
+pub returns-in_err-at-clause-kept : goal.returns-in_err-at-clause-kept
+returns-in_err-at-clause-kept g c t none = ap (λ (m : Moment). m.held) (quiet_join _ _ _ (c.body_of.ensures.quiet t) (c.fault.ensures.quiet t)).present
+
+pub returns-in-Some-clause-kept : goal.returns-in-Some-clause-kept
+returns-in-Some-clause-kept g c t none = ap (λ (m : Moment). m.held) (quiet_join _ _ _ (c.body_of.ensures.quiet t) (c.fault.ensures.quiet t)).present
+
+pub returns-in_err-steps-clause-kept : goal.returns-in_err-steps-clause-kept
+returns-in_err-steps-clause-kept g c t none =
+    let s = g.H.Host.seen in
+    let base = s c.args.host.now in
+    let text = ap (λ (x : Slot). body_at x (s c.body_of.new.host)) c.in_ok-body.ensures.slot ∙ same_body_at c.args.slot base (s c.body_of.new.host) (c.body_of.ensures.quiet t) in
+    let whole = none_whole c.in_ok-at.field-0 _ _ c.in_default.not-Some (c.in_ok-at.ensures.reading t) in
+    whole_stands base c.args.slot whole.0 (c.requires.opened t) (ap (λ (l : List ℕ). reading l) (sym text) ∙ whole.1) none
+
+pub returns-clause-kept : goal.returns-clause-kept
+returns-clause-kept g c t none =
+    let s = g.H.Host.seen in
+    let base = s c.args.host.now in
+    let text = ap (λ (x : Slot). body_at x (s c.body_of.new.host)) c.in_ok-body.ensures.slot ∙ same_body_at c.args.slot base (s c.body_of.new.host) (c.body_of.ensures.quiet t) in
+    let whole = none_whole c.in_ok-at.field-0 _ _ c.in_default.not-Some (c.in_ok-at.ensures.reading t) in
+    whole_stands base c.args.slot whole.0 (c.requires.opened t) (ap (λ (l : List ℕ). reading l) (sym text) ∙ whole.1) none

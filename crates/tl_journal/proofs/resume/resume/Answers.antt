@@ -1,4 +1,4 @@
-use Rattle.std.proofs.Common.{◌∙◌, ap, sym, true}
+use Rattle.std.proofs.Common.{◌≡◌, ◌∙◌, ap, sym, true}
 use Rattle.tl_model.specs.Volume.{Volume}
 use Rattle.tl_model.specs.Seen.{Moment}
 use Rattle.tl_model.specs.Pictures.{after_sync, after_quiet}
@@ -43,3 +43,21 @@ pub returns-in-None-clause-clean : goal.returns-in-None-clause-clean
 returns-in-None-clause-clean g c t =
     shut_clean (g.H.Host.seen c.opened.new.host) (open_quiet (g.H.Host.seen c.sync.new.self) (g.H.Host.seen c.opened.new.host) _ (c.opened.ensures.quiet t) (sym (c.in_ok-opened.ensures.opened t) ∙ c.in-None.is))
     (settled_quiet (g.H.Host.seen c.sync.new.self) (g.H.Host.seen c.opened.new.host) (settles _ _ (c.in_ok-sync.ensures.sync t)) (c.opened.ensures.quiet t))
+
+pub returns-in_err-opened-clause-kept : goal.returns-in_err-opened-clause-kept
+returns-in_err-opened-clause-kept g c t none = ap (λ (m : Moment). m.held) (c.opened.ensures.quiet t).present ∙ (c.in_ok-sync.ensures.sync t).held
+
+pub returns-in_err-finish-in-Some-clause-kept : goal.returns-in_err-finish-in-Some-clause-kept
+returns-in_err-finish-in-Some-clause-kept g c t none =
+    let s = g.H.Host.seen in
+    let before : (s c.opened.new.host).present.held ≡ (s c.args.host.now).present.held = ap (λ (m : Moment). m.held) (c.opened.ensures.quiet t).present ∙ (c.in_ok-sync.ensures.sync t).held in
+    c.finish.ensures.kept t (ap (λ (v : Volume). stand v) before ∙ none) ∙ before
+
+pub returns-in_ok-finish-in-Some-clause-kept : goal.returns-in_ok-finish-in-Some-clause-kept
+returns-in_ok-finish-in-Some-clause-kept g c t none =
+    let s = g.H.Host.seen in
+    let before : (s c.opened.new.host).present.held ≡ (s c.args.host.now).present.held = ap (λ (m : Moment). m.held) (c.opened.ensures.quiet t).present ∙ (c.in_ok-sync.ensures.sync t).held in
+    c.finish.ensures.kept t (ap (λ (v : Volume). stand v) before ∙ none) ∙ before
+
+pub returns-in-None-clause-kept : goal.returns-in-None-clause-kept
+returns-in-None-clause-kept g c t none = ap (λ (m : Moment). m.held) (c.opened.ensures.quiet t).present ∙ (c.in_ok-sync.ensures.sync t).held
