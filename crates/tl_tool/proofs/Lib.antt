@@ -1,4 +1,6 @@
-pub mod Dumps
-pub mod Outcomes
+pub mod Commands
+pub mod EntrySteps
+pub mod Joins
+pub mod Labels
 pub mod Plain
-pub mod Trees
+pub mod Runs

@@ -1,6 +1,6 @@
 pub mod Kinds
-pub mod Outcome
+pub mod Acted
 pub mod Refusals
 pub mod Run
-pub mod Stand
+pub mod Settings
 pub mod Status

@@ -1,7 +1,7 @@
 -- What an ending is.
 use Rattle.std.specs.Prelude.{ℕ}
 use Rattle.tl_tool.specs.declared.refusal.Refusal.{Refusal}
-use Rattle.tl_tool.specs.declared.refusal.Refusal.TheVariants.{BadWords, BadDatabase, TooLarge, Unbuilt}
+use Rattle.tl_tool.specs.declared.refusal.Refusal.TheVariants.{BadWords, BadJournal, BadDatabase, UnknownOption, BadValue, TooLarge}
 use Rattle.tl_tool.specs.declared.ending.Ending.{Ending}
 use Rattle.tl_tool.specs.declared.ending.Ending.TheVariants.{Done, Refused, HostFault, NoMemory}
 
@@ -10,7 +10,9 @@ abbrev pub refusal_status : Refusal → ℕ
 refusal_status (BadWords at kind) = 2
 refusal_status (BadDatabase line kind) = 1
 refusal_status (TooLarge what limit) = 1
-refusal_status (Unbuilt what) = 1
+refusal_status (BadJournal at) = 1
+refusal_status (UnknownOption name) = 1
+refusal_status (BadValue option) = 1
 
 -- 0 for a command that was carried out, 3 for a fault, 4 for want of memory
 abbrev pub status_of : Ending → ℕ
@@ -25,3 +27,10 @@ IsFault Done = ⊥
 IsFault (Refused refusal) = ⊥
 IsFault HostFault = Unit {0}
 IsFault NoMemory = ⊥
+
+-- the command was carried out, or refused
+abbrev pub IsCarried : Ending → Type 0
+IsCarried Done = Unit {0}
+IsCarried (Refused refusal) = Unit {0}
+IsCarried HostFault = ⊥
+IsCarried NoMemory = ⊥

@@ -35,8 +35,10 @@ impl Ending {
 #[cfg(test)]
 mod tests {
     use super::*;
-    use crate::refusal::Missing;
     use std::test::Fail;
+    use tl_db::What;
+    use tl_object::LineKind;
+    use tl_path::Name;
     use tl_words::WordKind;
 
     #[test]
@@ -46,10 +48,7 @@ mod tests {
             kind: WordKind::Action,
         };
         assert_eq!(rt; Ending::Done.status(), 0);
-        assert_eq!(rt;
-            Ending::Refused(Refusal::Unbuilt(Missing::Journal)).status(),
-            1
-        );
+        assert_eq!(rt; Ending::Refused(Refusal::BadJournal { at: 8 }).status(), 1);
         assert_eq!(rt; Ending::Refused(bad).status(), 2);
         assert_eq!(rt; Ending::HostFault.status(), 3);
         assert_eq!(rt; Ending::NoMemory.status(), 4);
@@ -57,8 +56,8 @@ mod tests {
 
     #[test]
     fn a_refusal_prints_its_name_and_fields(rt: HostRuntime) -> Result<(), Fail> {
-        let line = Refusal::Unbuilt(Missing::Journal).to_string(rt.alloc())?;
-        assert_eq!(rt; line.as_str(), "tlmgr: Unbuilt what=Journal");
+        let line = Refusal::BadJournal { at: 8 }.to_string(rt.alloc())?;
+        assert_eq!(rt; line.as_str(), "tlmgr: BadJournal at=8");
         let bad = Refusal::BadWords {
             at: 12,
             kind: WordKind::Operand,
@@ -67,6 +66,42 @@ mod tests {
             bad.to_string(rt.alloc())?.as_str(),
             "tlmgr: BadWords at=12 kind=Operand"
         );
+        let bad = Refusal::BadDatabase {
+            line: 4,
+            kind: LineKind::Key,
+        };
+        assert_eq!(rt;
+            bad.to_string(rt.alloc())?.as_str(),
+            "tlmgr: BadDatabase line=4 kind=Key"
+        );
+        let large = Refusal::TooLarge {
+            what: What::Database,
+            limit: 268435456,
+        };
+        assert_eq!(rt;
+            large.to_string(rt.alloc())?.as_str(),
+            "tlmgr: TooLarge what=Database limit=268435456"
+        );
+        Ok(())
+    }
+
+    #[test]
+    fn a_refused_option_is_named(rt: HostRuntime) -> Result<(), Fail> {
+        let unknown = Refusal::UnknownOption {
+            name: Name::parse(rt.alloc(), b"colour")?,
+        };
+        assert_eq!(rt;
+            unknown.to_string(rt.alloc())?.as_str(),
+            "tlmgr: UnknownOption name=colour"
+        );
+        let bad = Refusal::BadValue {
+            option: Name::parse(rt.alloc(), b"autobackup")?,
+        };
+        assert_eq!(rt;
+            bad.to_string(rt.alloc())?.as_str(),
+            "tlmgr: BadValue option=autobackup"
+        );
+        assert_eq!(rt; Ending::Refused(bad).status(), 1);
         Ok(())
     }
 }

@@ -2,19 +2,13 @@ ghost use Rattle.std.specs.Prelude.{◌≡◌};
 ghost use Rattle.tl_tool.specs.Kinds.{word_kind_name, line_kind_name, quantity_name};
 ghost use Rattle.tl_model.specs.Acks.{IsPlain};
 ghost use Rattle.tl_tool.specs.Refusals.{refusal_line};
-ghost use Rattle.tl_tool.specs.declared.refusal.Refusal.TheVariants.{BadWords, BadDatabase};
+ghost use Rattle.tl_tool.specs.declared.refusal.Refusal.TheVariants.{BadWords, BadJournal, BadDatabase, UnknownOption, BadValue, TooLarge};
 
 use std::fmt;
 use tl_db::What;
 use tl_object::LineKind;
+use tl_path::Name;
 use tl_words::WordKind;
-
-/// A part of the program that isn't built yet.
-#[derive(Clone, Copy, Debug, PartialEq, Eq)]
-pub enum Missing {
-    /// The recovery of a volume that has a journal.
-    Journal,
-}
 
 /// Why a command was refused. As text it is the line that the program says, without the line end.
 #[derive(Debug, Drop, PartialEq, Eq)]
@@ -26,12 +20,27 @@ pub enum Refusal {
         /// How they fail there.
         kind: WordKind,
     },
+    /// The journal is open at a body that doesn't read.
+    BadJournal {
+        /// The place of the body's first field that is cut or wrong, in bytes.
+        at: u64,
+    },
     /// The database doesn't read.
     BadDatabase {
         /// The first bad line, counted from 1.
         line: u32,
         /// What is wrong with it.
         kind: LineKind,
+    },
+    /// No option of a tree has this name.
+    UnknownOption {
+        /// The name.
+        name: Name,
+    },
+    /// The value isn't in the form of this option.
+    BadValue {
+        /// The option.
+        option: Name,
     },
     /// A quantity passes its limit.
     TooLarge {
@@ -40,22 +49,6 @@ pub enum Refusal {
         /// Its limit.
         limit: u64,
     },
-    /// It needs a part of the program that isn't built yet.
-    Unbuilt(Missing),
-}
-
-impl Missing {
-    ghost use Rattle.std.specs.Prelude.{◌≡◌};
-    ghost use Rattle.tl_tool.specs.Refusals.{missing_name};
-
-    // Its name, as a refusal has it.
-    fn name(self) -> &'static str
-        ensures { result.now ≡ missing_name self }
-    {
-        match self {
-            Missing::Journal => "Journal",
-        }
-    }
 }
 
 // The refusal of words.
@@ -72,6 +65,40 @@ pub(crate) fn bad_database(line: u32, kind: LineKind) -> Refusal
     ensures plain { IsPlain (refusal_line result) }
 {
     Refusal::BadDatabase { line, kind }
+}
+
+// The refusal of a journal.
+pub(crate) fn bad_journal(at: u64) -> Refusal
+    ensures refusal { result ≡ BadJournal at }
+    ensures plain { IsPlain (refusal_line result) }
+{
+    Refusal::BadJournal { at }
+}
+
+// The refusal of a quantity.
+pub(crate) fn too_large(what: What, limit: u64) -> Refusal
+    ensures refusal { result ≡ TooLarge what limit }
+    ensures plain { IsPlain (refusal_line result) }
+{
+    Refusal::TooLarge { what, limit }
+}
+
+// The refusal of an option that isn't there.
+pub(crate) fn unknown_option(name: Name) -> Refusal
+    ensures refusal { result ≡ UnknownOption name }
+    ensures plain { IsPlain (refusal_line result) }
+{
+    let _name = name.bytes();
+    Refusal::UnknownOption { name }
+}
+
+// The refusal of an option's value.
+pub(crate) fn bad_value(option: Name) -> Refusal
+    ensures refusal { result ≡ BadValue option }
+    ensures plain { IsPlain (refusal_line result) }
+{
+    let _name = option.bytes();
+    Refusal::BadValue { option }
 }
 
 // The name of a kind, as a refusal has it.
@@ -136,6 +163,15 @@ impl fmt::Display for Refusal {
                 let kind = word_kind_name(*kind);
                 write!(f, "tlmgr: BadWords at={at} kind={kind}")
             }
+            Refusal::BadJournal { at } => write!(f, "tlmgr: BadJournal at={at}"),
+            Refusal::UnknownOption { name } => {
+                let name = name.text();
+                write!(f, "tlmgr: UnknownOption name={name}")
+            }
+            Refusal::BadValue { option } => {
+                let option = option.text();
+                write!(f, "tlmgr: BadValue option={option}")
+            }
             Refusal::BadDatabase { line, kind } => {
                 let kind = line_kind_name(*kind);
                 write!(f, "tlmgr: BadDatabase line={line} kind={kind}")
@@ -143,10 +179,6 @@ impl fmt::Display for Refusal {
             Refusal::TooLarge { what, limit } => {
                 let what = quantity_name(*what);
                 write!(f, "tlmgr: TooLarge what={what} limit={limit}")
-            }
-            Refusal::Unbuilt(what) => {
-                let what = what.name();
-                write!(f, "tlmgr: Unbuilt what={what}")
             }
         }
     }

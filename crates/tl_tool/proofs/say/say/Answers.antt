@@ -1,14 +1,16 @@
-use Rattle.std.proofs.Common.{true, false, refl, inr}
-use Rattle.tl_tool.specs.Run.{saying}
-use Rattle.tl_tool.proofs.Outcomes.{speaks_at_once}
+use Rattle.std.proofs.Common.{false, refl, sym, subst, [], ◌∷◌}
+use Rattle.tl_model.specs.Seen.{Seen}
+use Rattle.tl_model.specs.Trace.{Text, Cut}
+use Rattle.tl_model.specs.Joins.{trace_text, cut_text}
+use Rattle.tl_journal_text.specs.Stand.{stand, tree_of}
 use Rattle.tl_tool.proofs.say.say.Goals as goal
 
-pub returns-in-Ok-clause-outcome : goal.returns-in-Ok-clause-outcome
-returns-in-Ok-clause-outcome g c t =
-    let s = g.H.Host.seen in
-    (refl, speaks_at_once (saying c.args.bytes.now) c.args.bytes.now true (s c.args.host.now) (s c.say.new.self) refl c.requires (c.in-Ok.ensures.says t))
+pub returns-in-Ok-clause-run : goal.returns-in-Ok-clause-run
+returns-in-Ok-clause-run g c t =
+    (refl, trace_text stand c.args.journal c.say.new.self (tree_of c.args.journal.present.held) c.args.bytes.now (c.stands.ensures.tree t) c.requires (c.in-Ok.ensures.says t))
 
-pub returns-in-Err-clause-outcome : goal.returns-in-Err-clause-outcome
-returns-in-Err-clause-outcome g c t =
-    let s = g.H.Host.seen in
-    inr (speaks_at_once (saying c.args.bytes.now) c.args.bytes.now false (s c.args.host.now) (s c.say.new.self) refl c.requires (c.in-Err.ensures.says t))
+pub returns-in-Err-clause-run : goal.returns-in-Err-clause-run
+returns-in-Err-clause-run g c t =
+    let tree = tree_of c.args.journal.present.held in
+    subst (λ (last : Seen). Cut stand c.args.journal last tree (Text c.args.bytes.now ∷ [])) (sym c.into_host.ensures)
+    (cut_text stand false c.args.journal c.say.new.self tree c.args.bytes.now (c.stands.ensures.tree t) c.requires (c.in-Err.ensures.says t))

@@ -1,36 +1,51 @@
+use Rattle.std.proofs.Common.{sym, ap, subst, ◌∙◌}
+use Rattle.tl_model.specs.Joins.{trace_start}
+use Rattle.tl_journal_text.specs.Stand.{stand}
 use Rattle.tl_words.specs.Inside.{texts}
-use Rattle.std.proofs.Common.{◌≡◌, subst, Some, List, ℕ}
-use Rattle.tl_model.specs.Volume.{Volume}
-use Rattle.tl_model.specs.Seen.{Seen}
-use Rattle.tl_model.specs.Pictures.{since_could}
-use Rattle.tl_tool.specs.Run.{Run, IsRun, run_of}
-use Rattle.tl_tool.specs.Outcome.{IsOutcome, IsSaid, run_over}
-use Rattle.tl_tool.specs.Stand.{stand}
-use Rattle.tl_tool.specs.declared.ending.Ending.{Ending}
-use Rattle.tl_tool.proofs.Trees.{run_over-tree, run_over-none}
-use Rattle.tl_tool.proofs.Outcomes.{outcome_run, outcome_said, run_pictures}
+use Rattle.tl_words.specs.Errors.{IsErrorOf}
+use Rattle.tl_words.specs.Faults.{words_fault}
+use Rattle.tl_words.specs.declared.error.WordsError.{WordsError}
+use Rattle.tl_tool.specs.declared.ending.Ending.TheVariants.{NoMemory}
+use Rattle.tl_tool.specs.Run.{Run, IsRun, refused, run_of}
+use Rattle.tl_tool.proofs.Commands.{run_of-action, run_of-fault}
+use Rattle.tl_tool.proofs.Runs.{nothing_paused, run_could}
 use Rattle.tl_tool.proofs.top.texlive.Goals as goal
 
--- the run over the tree
-made : (words : List (List ℕ)) (ending : Ending) (first last : Seen) (tree : Volume) → stand first.present.held ≡ Some tree → IsOutcome (run_over words first.present.held) ending first last → IsRun (run_of words tree) ending first last tree
-made words ending first last tree stood outcome = subst (λ (r : Run). IsRun r ending first last tree) (run_over-tree words first.present.held tree stood)
-    (outcome_run first last tree stood (run_over words first.present.held) ending outcome)
-
-pub returns-clause-run : goal.returns-clause-run
-returns-clause-run g c t tree stood =
-    let s = g.H.Host.seen in
-    made (texts c.args.words.now) c.perform-ending.result (s c.args.host) (s c.perform-ending.new.host) tree stood (c.perform-ending.ensures.outcome t)
-
-pub returns-clause-pictures : goal.returns-clause-pictures
-returns-clause-pictures g c t tree stood =
-    let s = g.H.Host.seen in
-    let run = run_of (texts c.args.words.now) tree in
-    since_could (s c.args.host) (s c.perform-ending.new.host) _ (run_pictures run c.perform-ending.result (s c.args.host) (s c.perform-ending.new.host) tree
-    (made (texts c.args.words.now) c.perform-ending.result (s c.args.host) (s c.perform-ending.new.host) tree stood (c.perform-ending.ensures.outcome t)))
-
-pub returns-clause-without : goal.returns-clause-without
-returns-clause-without g c t none =
-    let s = g.H.Host.seen in
+pub returns-in-Ok-clause-pictures : goal.returns-in-Ok-clause-pictures
+returns-in-Ok-clause-pictures g c t tree stood =
     let words = texts c.args.words.now in
-    subst (λ (r : Run). IsSaid r c.perform-ending.result (s c.args.host) (s c.perform-ending.new.host)) (run_over-none words (s c.args.host).present.held none)
-    (outcome_said (run_over words (s c.args.host).present.held) c.perform-ending.result (s c.args.host) (s c.perform-ending.new.host) (c.perform-ending.ensures.outcome t))
+    let first = g.H.Host.seen c.args.host in
+    let last = g.H.Host.seen c.start.result.1 in
+    run_could (run_of words tree) c.start.result.0 first last tree
+    (subst (λ (r : Run). IsRun r c.start.result.0 first last tree) (sym (run_of-action words c.in-Ok.command.action tree c.in-Ok.ensures.none c.in-Ok.ensures.command.action))
+    (c.start.ensures.run t tree stood))
+
+pub returns-in-Err-BadWords-clause-run : goal.returns-in-Err-BadWords-clause-run
+returns-in-Err-BadWords-clause-run g c t tree stood =
+    let words = texts c.args.words.now in
+    let first = g.H.Host.seen c.args.host in
+    let last = g.H.Host.seen c.refuse_at_once.result.1 in
+    let fault = subst (λ (e : WordsError). IsErrorOf (words_fault words) e) c.in-Err-BadWords.field-0-is c.in-Err-BadWords.ensures.fault in
+    subst (λ (r : Run). IsRun r c.refuse_at_once.result.0 first last tree)
+    (ap refused c.bad_words.ensures.refusal ∙ sym (run_of-fault words _ tree fault)) (c.refuse_at_once.ensures.run t tree stood)
+
+pub returns-in-Err-BadWords-clause-pictures : goal.returns-in-Err-BadWords-clause-pictures
+returns-in-Err-BadWords-clause-pictures g c t tree stood =
+    let words = texts c.args.words.now in
+    let first = g.H.Host.seen c.args.host in
+    let last = g.H.Host.seen c.refuse_at_once.result.1 in
+    let fault = subst (λ (e : WordsError). IsErrorOf (words_fault words) e) c.in-Err-BadWords.field-0-is c.in-Err-BadWords.ensures.fault in
+    run_could (run_of words tree) c.refuse_at_once.result.0 first last tree
+    (subst (λ (r : Run). IsRun r c.refuse_at_once.result.0 first last tree)
+    (ap refused c.bad_words.ensures.refusal ∙ sym (run_of-fault words _ tree fault)) (c.refuse_at_once.ensures.run t tree stood))
+
+pub returns-in-Err-NoMemory-clause-run : goal.returns-in-Err-NoMemory-clause-run
+returns-in-Err-NoMemory-clause-run g c t tree stood =
+    let first = g.H.Host.seen c.args.host in
+    nothing_paused first first tree (run_of (texts c.args.words.now) tree).events (trace_start stand first tree stood)
+
+pub returns-in-Err-NoMemory-clause-pictures : goal.returns-in-Err-NoMemory-clause-pictures
+returns-in-Err-NoMemory-clause-pictures g c t tree stood =
+    let first = g.H.Host.seen c.args.host in
+    let run = run_of (texts c.args.words.now) tree in
+    run_could run NoMemory first first tree (nothing_paused first first tree run.events (trace_start stand first tree stood))
