@@ -118,7 +118,8 @@ found_name wanted (x ∷ objects) o is =
       | inr other ↦ found_name wanted objects o (sym (ap (λ t. cond t (Some x) (entry_of wanted objects)) other) ∙ is)
     ]
 
-kept_name : (objects : List Object) → (unwrap_or (entry_of installation objects) no_options).name ≡ installation
+-- the entry that is set has the name of the entry that keeps the options
+pub kept_name : (objects : List Object) → (unwrap_or (entry_of installation objects) no_options).name ≡ installation
 kept_name objects = by_entry (entry_of installation objects) refl
   where
     by_entry : (e : Option Object) → entry_of installation objects ≡ e → (unwrap_or e no_options).name ≡ installation

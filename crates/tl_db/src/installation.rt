@@ -206,6 +206,7 @@ impl Db {
     ) -> Result<Object, OptionError>
         requires { length value.now < 2 ^ 32 }
         ensures entry { IfOk result (λ entry. entry_with option.now value.now self.now ≡ Ok entry) }
+        ensures name { IfOk result (λ entry. entry.name ≡ installation) }
         ensures fault { IfErr result (IsOptionFault (entry_with option.now value.now self.now)) }
     {
         let Some(option) = TreeOption::named(option) else {

@@ -162,6 +162,17 @@ fn the_first_line_for_an_option_counts_and_is_replaced_in_its_place(
 }
 
 #[test]
+fn a_kept_value_is_given_in_its_one_spelling(rt: HostRuntime) -> Result<(), Fail> {
+    let alloc = rt.alloc();
+    let text =
+        b"name 00texlive.installation\ndepend setting_available_architectures:windows  linux\ndepend opt_autobackup:007\n".as_slice();
+    let db = read_db(alloc, text)?;
+    assert!(rt; has_option(&db, alloc, b"platforms", b"linux windows"));
+    assert!(rt; has_option(&db, alloc, b"autobackup", b"7"));
+    Ok(())
+}
+
+#[test]
 fn a_line_for_an_option_is_added_last(rt: HostRuntime) -> Result<(), Fail> {
     let alloc = rt.alloc();
     let db = read_db(
