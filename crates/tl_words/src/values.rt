@@ -69,9 +69,10 @@ fn distinct_words<'a>(alloc: Global, operands: PlainsIter<'a>) -> Result<Vec<&'a
     let mut words = Vec::new(alloc);
     for operand in operands {
         let is_new = seen.insert(operand.word)?;
-        if is_new {
-            words.push(operand.word)?;
+        if !is_new {
+            continue;
         }
+        words.push(operand.word)?;
     }
     Ok(words)
 }
