@@ -11,9 +11,9 @@ use Rattle.tl_words.specs.Parts.{Part, given, plain, parts, own_value, is_option
 use Rattle.tl_words.specs.Table.{takes_value, option_named, action_named_among, needs_local, operands_of, is_served}
 use Rattle.std.specs.List.{list_any}
 use Rattle.tl_words.specs.Order.{fault, or_else, earlier}
-use Rattle.tl_words.specs.Operands.{operand_fault, missing_fault, operands_fault, form_of, form_kind, fits, after, is_needed}
+use Rattle.tl_words.specs.Operands.{operand_fault, operands_fault, form_of, form_kind, fits, after, is_needed}
 use Rattle.tl_words.specs.Settings.{given_fault, setting_fault, options_fault, tags_after, tag_of, is_worker_count, has_option, repositories_of}
-use Rattle.tl_words.specs.Faults.{size_fault, plains, is_foreign, foreign_fault, user_fault, required_fault, flags_fault, repository_fault, asked_fault, known_fault, action_fault, command_fault}
+use Rattle.tl_words.specs.Faults.{size_fault, plains, is_foreign, foreign_fault, user_fault, required_fault, flags_fault, repository_fault, known_fault, action_fault, command_fault}
 use Rattle.tl_words.specs.declared.error.WordKind.TheVariants as kinds
 use Rattle.std.proofs.lemmas.Bool.{cases_lt}
 use Rattle.tl_words.specs.Places.{ValueWithin, PartsWithin, AreWithin}

@@ -1,5 +1,5 @@
 -- The command that words stand for.
-use Rattle.std.specs.Prelude.{◌≡◌, ℕ, Bool, true, false, if◌then◌else◌, IsTrue, List, [], ◌∷◌, ◌++◌, Option, Some, None, option_map, unwrap_or, map, find, bytes_eq}
+use Rattle.std.specs.Prelude.{◌≡◌, ℕ, Bool, if◌then◌else◌, IsTrue, List, [], ◌∷◌, ◌++◌, Option, Some, None, option_map, unwrap_or, map, find, bytes_eq}
 use Rattle.std.specs.List.{list_any}
 use Rattle.tl_model.specs.Decimal.{decimal_value}
 use Rattle.tl_path.specs.declared.kinds.Check.{Check}

@@ -2,7 +2,7 @@
 use Rattle.std.specs.Prelude.{ℕ, ◌==◌, ◌&&◌, Bool, true, false, not, if◌then◌else◌, List, [], ◌∷◌, length, codes, Option, Some, None, is_some, is_none, find, nat_le, bytes_eq}
 use Rattle.std.specs.List.{list_any, list_all}
 use Rattle.tl_model.specs.Decimal.{is_decimal, decimal_value}
-use Rattle.tl_path.specs.Names.{is_name, is_tag, is_word}
+use Rattle.tl_path.specs.Names.{is_name, is_tag}
 use Rattle.tl_path.specs.Path.{path_fault}
 use Rattle.tl_path.specs.Kinds.{check_word, all_checks}
 use Rattle.tl_words.specs.declared.error.WordKind.{WordKind}
@@ -13,7 +13,7 @@ use Rattle.tl_words.specs.declared.operands.Form.TheVariants as forms
 use Rattle.tl_words.specs.declared.operands.PinWord.{PinWord}
 use Rattle.tl_words.specs.declared.operands.PinWord.TheVariants.{Show, Add, Remove}
 use Rattle.tl_words.specs.declared.operands.Expected.{Expected}
-use Rattle.tl_words.specs.declared.operands.Expected.TheVariants.{Nothing, MayName, OneName, SomeNames, AnyNames, OneWord, OneCheck, OneComponent, OneCount, MayNameAndRevision, MayRevision, MayNameAndWords, AnyWords, Pins, PinsWithAll, TagAndGlobs, TagAndAnyGlobs, SomeGlobs, AnyGlobs}
+use Rattle.tl_words.specs.declared.operands.Expected.TheVariants.{Nothing, MayName, SomeNames, AnyNames, OneWord, OneCheck, OneComponent, OneCount, MayNameAndRevision, MayRevision, MayNameAndWords, AnyWords, Pins, PinsWithAll, TagAndGlobs, TagAndAnyGlobs, SomeGlobs, AnyGlobs}
 use Rattle.tl_words.specs.Order.{fault, or_else}
 
 -- whether a text is a decimal number within bounds

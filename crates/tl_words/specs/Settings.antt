@@ -1,5 +1,5 @@
 -- What the options of words say, and the first fault of them.
-use Rattle.std.specs.Prelude.{ℕ, ◌==◌, ◌&&◌, ◌||◌, ◌++◌, Bool, true, false, not, if◌then◌else◌, List, [], ◌∷◌, length, map, codes, Option, Some, None, nat_lt, nat_le, bytes_eq}
+use Rattle.std.specs.Prelude.{ℕ, ◌==◌, ◌&&◌, ◌||◌, ◌++◌, Bool, false, not, if◌then◌else◌, List, [], ◌∷◌, length, map, codes, Option, Some, None, nat_lt, nat_le, bytes_eq}
 use Rattle.std.specs.List.{before_first, after_first, position_or_len, list_any}
 use Rattle.tl_model.specs.Decimal.{decimal_value}
 use Rattle.tl_path.specs.Names.{is_tag}

@@ -1,5 +1,5 @@
 -- The text that says how the program is called.
-use Rattle.std.specs.Prelude.{ℕ, ◌&&◌, ◌++◌, Bool, true, false, not, if◌then◌else◌, List, [], ◌∷◌, codes}
+use Rattle.std.specs.Prelude.{ℕ, ◌++◌, false, not, if◌then◌else◌, List, [], codes}
 use Rattle.std.specs.List.{flat_map}
 use Rattle.tl_words.specs.declared.table.OptionName.{OptionName}
 use Rattle.tl_words.specs.declared.table.OptionName.TheVariants as options

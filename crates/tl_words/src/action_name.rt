@@ -1,5 +1,5 @@
 // The actions that the program knows: how each is written, its options and its operands.
-ghost use Rattle.std.specs.Prelude.{◌≡◌, bytes_eq, find};
+ghost use Rattle.std.specs.Prelude.{◌≡◌};
 ghost use Rattle.tl_words.specs.Usage.{operands_text, effect_text};
 ghost use Rattle.tl_words.specs.Table.{action_text, action_named_among, is_own, goes_with, needs_local, names_expected, operands_of, is_served};
 

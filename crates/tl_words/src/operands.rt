@@ -1,5 +1,5 @@
 // The forms of operands, and the first fault of some operands.
-ghost use Rattle.std.specs.Prelude.{◌≡◌, ◌==◌, ◌&&◌, not, nat_le, nat_lt, length, false, true, IfOk, IfNone, IfSome, option_map};
+ghost use Rattle.std.specs.Prelude.{◌≡◌, ◌==◌, false, true, IfOk, IfNone, IfSome};
 ghost use Rattle.std.specs.List.{list_any, list_all};
 ghost use Rattle.tl_model.specs.Decimal.{decimal_value};
 ghost use Rattle.tl_path.specs.Names.{is_name, is_tag};

@@ -1,7 +1,6 @@
 // The command that words ask for, or their first fault.
-ghost use Rattle.std.specs.Prelude.{◌≡◌, ◌≤◌, [], Some, None, true, false, length, IfOk, IfErr, OnOk, MatchResult, option_map};
+ghost use Rattle.std.specs.Prelude.{◌≡◌, ◌≤◌, [], Some, None, true, false, length, IfOk, IfErr, OnOk, option_map};
 ghost use Rattle.tl_words.specs.Order.{earlier};
-ghost use Rattle.tl_words.specs.Table.{built_actions, session_actions};
 ghost use Rattle.tl_words.specs.Settings.{options_fault, repositories_of, workers_of, user_of};
 ghost use Rattle.tl_words.specs.Faults.{size_fault, action_fault, command_fault, plains, program_parts, session_parts, words_fault_among, words_fault, session_fault_among, session_fault};
 ghost use Rattle.tl_words.specs.Commands.{first_action_among, action_of, IsCommandAmong, IsCommandOf, IsSessionCommandOf, IsBuilt, IsBuiltForSessions, HasRoot};

@@ -1,9 +1,8 @@
-// An action with its options and operands, whose words have no fault.
+// An action with its options and operands, once its words are known to have no fault.
 ghost use Rattle.std.specs.Prelude.{◌≡◌, IfOk, map, option_map};
-ghost use Rattle.tl_words.specs.Commands.{first_word, may_word, later_words, with_word, distinct, number_within, check_of, pins_by, pins_of, action_with};
+ghost use Rattle.tl_words.specs.Commands.{first_word, may_word, later_words, distinct, number_within, check_of, pins_by, pins_of, action_with};
 ghost use Rattle.tl_words.specs.Settings.{has_option};
 ghost use Rattle.tl_words.specs.Inside.{texts, parts_left, words_left};
-ghost use Rattle.tl_words.specs.Operands.{pin_word};
 
 use crate::action_name::ActionName;
 use crate::command::{Action, PinAction};
@@ -17,12 +16,14 @@ use std::alloc::{AllocError, Global};
 use std::collections::BTreeSet;
 use tl_path::{Check, Name, Tag};
 
+// A name. Its form was looked at before, so that only memory can fail here.
 fn read_name(alloc: Global, word: &[u8]) -> Result<Name, AllocError>
     ensures { IfOk result (λ name. name ≡ word.now) }
 {
     Name::parse(alloc, word).map_err(|_| AllocError)
 }
 
+// A tag, whose form was looked at before too.
 fn read_tag(alloc: Global, word: &[u8]) -> Result<Tag, AllocError>
     ensures { IfOk result (λ tag. tag ≡ word.now) }
 {
@@ -69,9 +70,10 @@ fn distinct_words<'a>(alloc: Global, operands: PlainsIter<'a>) -> Result<Vec<&'a
     let mut words = Vec::new(alloc);
     for operand in operands {
         let is_new = seen.insert(operand.word)?;
-        if is_new {
-            words.push(operand.word)?;
+        if !is_new {
+            continue;
         }
+        words.push(operand.word)?;
     }
     Ok(words)
 }

@@ -5,12 +5,12 @@ use Rattle.tl_words.specs.Inside.{words_left}
 use Rattle.tl_words.proofs.Seen.{nows, keeps_new, sees_new}
 use Rattle.tl_words.proofs.values.distinct_words.Goals as goal
 
-pub loop-operand-preserved-in-Continue-branch-2 : goal.loop-operand-preserved-in-Continue-branch-2
-loop-operand-preserved-in-Continue-branch-2 c =
+pub loop-operand-preserved : goal.loop-operand-preserved
+loop-operand-preserved c =
     let old = c.loop-operand.words.items in
     let word = c.in-Some.operand.word in
     let unseen : true ≡ not (list_any (bytes_eq word.now) (nows old))
-    = sym c.if-is_new.true ∙ c.in_ok-is_new.ensures.added ∙ ap not (c.loop-operand.invariant.seen word) in record {
+    = sym c.if-not-is_new.false ∙ c.in_ok-is_new.ensures.added ∙ ap not (c.loop-operand.invariant.seen word) in record {
       can = search rules;
       ends = search rules;
       same = c.loop-operand.invariant.same
