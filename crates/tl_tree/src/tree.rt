@@ -1,4 +1,4 @@
-ghost use Rattle.std.specs.Prelude.{◌≡◌, ◌≤◌, ◌+◌, ◌∷◌, [], IfOk, IfErr, is_ok, option_copied};
+ghost use Rattle.std.specs.Prelude.{◌≡◌, true, ◌≤◌, ◌+◌, ◌∷◌, [], IfOk, IfErr, is_ok, option_copied};
 ghost use Rattle.tl_model.specs.Causes.{HasCause, Rose};
 ghost use Rattle.tl_model.specs.Seen.{Told, Quiet, Says};
 ghost use Rattle.tl_model.specs.Trace.{Trace};
@@ -6,8 +6,8 @@ ghost use Rattle.tl_journal_text.specs.Stand.{stand, tree_of};
 ghost use Rattle.tl_db.specs.Reading.{IsRead};
 ghost use Rattle.tl_tree.specs.Owners.{owner_of};
 ghost use Rattle.tl_tree.specs.Planted.{database_text};
-ghost use Rattle.tl_tree.specs.Changes.{IsChange, entries_after, changed};
-ghost use Rattle.tl_tree.specs.Answers.{IsTreeError, IsWithin, IsAllowed, HasBegun, IsUnsynced, IsLostStep, IsStepError, step_of};
+ghost use Rattle.tl_tree.specs.Changes.{IsChange, has_entries, entries_after, changed};
+ghost use Rattle.tl_tree.specs.Answers.{IsTreeError, IsWithin, IsAllowed, HasLimit, HasBegun, IsUnsynced, IsLostStep, IsStepError, step_of};
 ghost use Rattle.tl_tree.specs.declared.error.TreeError.TheVariants.{HostFault as LoadFault};
 ghost use Rattle.tl_tree.specs.declared.error.StepError.TheVariants.{HostFault as StepFault};
 
@@ -116,6 +116,7 @@ impl<H: Host> Tree<H> {
         ensures syncs { Told H.tells (IfOk result (λ tree. tree.seen.syncs ≤ self.seen.syncs + 2)) }
         ensures later { IfOk result (λ tree. self.seen.faults ≤ tree.seen.faults) }
         ensures error { IfErr result (λ lost. IsStepError self change.now.parts lost.fault) }
+        ensures speaks { IfErr result (λ lost. HasLimit lost.fault → has_entries change.now.parts ≡ true) }
         ensures begun { IfErr result (λ lost. HasBegun self change.now.parts lost.fault) }
         ensures unsynced { Told H.tells (IfErr result (λ lost. IsUnsynced lost.fault self.seen.syncs (H.seen lost.host).syncs)) }
         ensures lost { Told H.tells (IfErr result (λ lost. IsLostStep self change.now.parts change.now.label lost.fault (H.seen lost.host))) }

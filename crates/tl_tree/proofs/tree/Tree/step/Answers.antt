@@ -1,7 +1,8 @@
-use Rattle.std.proofs.Common.{◌∙◌, ap, List}
+use Rattle.std.proofs.Common.{◌≡◌, ◌∙◌, ap, subst, true, List}
 use Rattle.std.specs.Prelude.{map}
 use Rattle.tl_file.specs.declared.file.FileBytes.{FileBytes}
-use Rattle.tl_tree.specs.Changes.{named_bytes}
+use Rattle.tl_tree.specs.declared.change.Part.{Part}
+use Rattle.tl_tree.specs.Changes.{named_bytes, has_entries}
 use Rattle.tl_tree.specs.Staged.{files_of}
 use Rattle.tl_tree.proofs.Performs.{still, plan_lost, names_may_go, files_may_come, tree_is, trace_is, cut_is, within_is}
 use Rattle.tl_tree.proofs.tree.Tree.step.Goals as goal
@@ -10,6 +11,9 @@ pub returns-in-Err-clause-lost : goal.returns-in-Err-clause-lost
 returns-in-Err-clause-lost g c t =
     plan_lost c.args.self c.args.change.now.parts c.args.change.now.label _ c.in-Err.fault (g.H.Host.seen c.into_host.result) c.in-Err.ensures.error
     (still c.args.self c.self.inside.journal c.self.inside.db (g.H.Host.seen c.into_host.result) c.self.view_is (c.stands.ensures.tree t) (c.stands.ensures.stays t) c.into_host.ensures)
+
+pub returns-in-Err-clause-speaks : goal.returns-in-Err-clause-speaks
+returns-in-Err-clause-speaks g c limit = subst (λ (ps : List Part). has_entries ps ≡ true) c.as_slice-parts.ensures (c.in-Err.ensures.speaks limit)
 
 pub arrange-requires : goal.arrange-requires
 arrange-requires g c =
