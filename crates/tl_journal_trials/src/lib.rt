@@ -2,6 +2,10 @@
 #![tactic(auto)]
 
 #[cfg(test)]
+mod counts;
+#[cfg(test)]
+mod order;
+#[cfg(test)]
 mod plain;
 #[cfg(test)]
 mod stops;

@@ -56,6 +56,11 @@ impl Names {
         }
     }
 
+    // The body of the first slot of a host.
+    pub(crate) fn body<'h>(&self, host: &'h MemHost) -> Option<&'h [u8]> {
+        host.file(&self.body)
+    }
+
     // What a host stands for, or the place of the fault of the body at which the gate is open.
     pub(crate) fn stand<'h>(&self, host: &'h MemHost) -> Result<Tree<'h>, usize> {
         let tree = self.tree(host);

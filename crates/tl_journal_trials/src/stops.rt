@@ -4,8 +4,9 @@ use crate::tests::{bad, host, target};
 use std::alloc::Global;
 use std::process::Abort;
 use std::test::Fail;
+use tl_file::Bytes;
 use tl_journal::{Clean, HostFault, Journal, Lost, RecoverError};
-use tl_memhost::{Bytes, Choice, MemHost};
+use tl_memhost::{Choice, MemHost};
 
 const GATE: &str = "tlpkg/journal/gate";
 

@@ -51,7 +51,7 @@ pub(crate) fn host(
     Ok(MemHost::new(alloc, made).ok().expect(rt, "a host"))
 }
 
-fn recovered(rt: &impl Abort, host: MemHost, redone: bool) -> Clean<MemHost> {
+pub(crate) fn recovered(rt: &impl Abort, host: MemHost, redone: bool) -> Clean<MemHost> {
     match Journal::recover(host) {
         Ok(r) => {
             assert_eq!(rt; r.redone, redone);
@@ -140,7 +140,7 @@ fn change(
     committed.apply().ok().expect(rt, "applied").close()
 }
 
-fn in_pieces(
+pub(crate) fn in_pieces(
     rt: &impl Abort,
     alloc: Global,
     staging: Staging<MemHost>,
