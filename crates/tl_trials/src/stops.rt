@@ -52,22 +52,6 @@ fn repaired(rt: &impl Abort, alloc: Global, host: MemHost) -> Result<bool, Fail>
     Ok(after)
 }
 
-// A stop before a call, with each choice, is repaired to the tree after the step where the label was begun.
-fn stopped(
-    rt: &impl Abort,
-    alloc: Global,
-    host: &MemHost,
-    call: u64,
-    begun: bool,
-) -> Result<(), Fail> {
-    for number in 0..CHOICES {
-        let stop = host.stop_at(call, &choice(alloc, number)?)?;
-        let after = repaired(rt, alloc, stop)?;
-        assert!(rt; after || !begun);
-    }
-    Ok(())
-}
-
 #[test]
 fn a_stopped_setting_is_made_or_not(rt: HostRuntime) -> Result<(), Fail> {
     let alloc = rt.alloc();
@@ -77,7 +61,11 @@ fn a_stopped_setting_is_made_or_not(rt: HostRuntime) -> Result<(), Fail> {
     assert_eq!(rt; made.said(), LABEL.as_bytes());
     assert_eq!(rt; made.syncs(), 5);
     for call in 0..made.calls() {
-        stopped(&rt, alloc, &made, call, made.said_before(call) > 0)?;
+        for number in 0..CHOICES {
+            let stop = made.stop_at(call, &choice(alloc, number)?)?;
+            let after = repaired(&rt, alloc, stop)?;
+            assert!(rt; after || made.said_before(call) == 0);
+        }
     }
     Ok(())
 }
@@ -93,11 +81,10 @@ fn a_failing_call_ends_the_setting_and_the_next_run_repairs_the_tree(
         host.fail_at(call)?;
         let (ending, host) = over(alloc, host, &SET)?;
         assert!(rt; ending == Ending::HostFault);
-        let begun = !host.said().is_empty();
-        let last = host.calls();
-        assert_eq!(rt; last, call + 1);
-        stopped(&rt, alloc, &host, last, begun)?;
-        assert!(rt; repaired(&rt, alloc, host)? || !begun);
+        let said = host.said().len();
+        assert_eq!(rt; host.calls(), call + 1);
+        let after = repaired(&rt, alloc, host)?;
+        assert!(rt; after || said == 0);
     }
     Ok(())
 }
