@@ -1,7 +1,6 @@
 -- An entry's files are outside the journal's folder.
 use Rattle.std.proofs.Common.{◌≡◌, ◌⊎◌, Bool, true, false, cond, ◌||◌, ◌&&◌, List, [], ◌∷◌, ◌++◌, drop, Option, Some, None, refl, sym, ◌∙◌, ap, inl, inr}
-use Rattle.std.specs.Prelude.{not, filter, bytes_eq, codes}
-use Rattle.std.specs.List.{AllByRecursion}
+use Rattle.std.specs.Prelude.{not, filter, bytes_eq}
 use Rattle.std.proofs.lemmas.Bool.{cases_Bool, true≢false}
 use Rattle.tl_model.specs.Volume.{Name}
 use Rattle.tl_path.specs.Components.{is_below}
@@ -9,7 +8,7 @@ use Rattle.tl_path.specs.Reserved.{is_reserved, reserved_paths}
 use Rattle.tl_path.proofs.Front.{is_below-begins}
 use Rattle.tl_journal_text.specs.Records.{is_ours, is_outside}
 use Rattle.tl_object.specs.declared.object.Object.{Object}
-use Rattle.tl_tree.specs.Changes.{own, own_of, listed}
+use Rattle.tl_tree.specs.Changes.{own_of, listed}
 use Rattle.tl_tree.specs.Staged.{AreOutside}
 use Rattle.tl_tree.proofs.Order.{folder, ours_front}
 
