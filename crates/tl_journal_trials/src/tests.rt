@@ -5,11 +5,11 @@ use std::alloc::Global;
 use std::process::Abort;
 use std::test::Fail;
 use tl_file::{Bytes, FileBytes};
-use tl_host::Host;
+use tl_host::{FileError, Host};
 use tl_journal::{Clean, Journal, RecoverError, Staging};
 use tl_journal_text::is_outside;
 use tl_memhost::MemHost;
-use tl_path::Path;
+use tl_path::{Path, PathRef};
 
 const GATE: &str = "tlpkg/journal/gate";
 
@@ -177,5 +177,25 @@ fn changes_are_made_one_after_another(rt: HostRuntime) -> Result<(), Fail> {
     assert_eq!(rt; host.file(&path(&rt, alloc, GATE)), None);
     assert_eq!(rt; host.syncs(), 9);
     assert_eq!(rt; host.said(), b"step\nstep\nstep\n".as_slice());
+    Ok(())
+}
+
+#[test]
+fn a_file_is_read_whole_at_rest(rt: HostRuntime) -> Result<(), Fail> {
+    let alloc = rt.alloc();
+    let files = [("a", b"xyz".as_slice())];
+    let mut clean = recovered(&rt, host(&rt, alloc, &files)?, false);
+    match clean.read_file(alloc, PathRef::known("a"), 3) {
+        Ok(Some(whole)) => assert_eq!(rt; whole.as_slice(), b"xyz".as_slice()),
+        _ => panic!(rt; "not read"),
+    }
+    match clean.read_file(alloc, PathRef::known("b"), 3) {
+        Ok(None) => (),
+        _ => panic!(rt; "a file"),
+    }
+    match clean.read_file(alloc, PathRef::known("a"), 2) {
+        Err(error) => assert_eq!(rt; error, FileError::TooLarge),
+        Ok(_) => panic!(rt; "read"),
+    }
     Ok(())
 }

@@ -1,0 +1,9 @@
+//! Trials of the installed tree over devices in memory.
+#![tactic(auto)]
+
+#[cfg(test)]
+mod agreed;
+#[cfg(test)]
+mod stops;
+#[cfg(test)]
+mod tests;
