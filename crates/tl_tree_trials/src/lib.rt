@@ -1,9 +1,0 @@
-//! Trials of the installed tree over devices in memory.
-#![tactic(auto)]
-
-#[cfg(test)]
-mod agreed;
-#[cfg(test)]
-mod stops;
-#[cfg(test)]
-mod tests;
