@@ -4,8 +4,8 @@ use Rattle.std.specs.List.{list_any}
 use Rattle.std.specs.FinSet as set
 use Rattle.std.specs.Coded.{Coded, code_by, coded×, coded_ℕ, coded_list}
 use Rattle.tl_model.specs.Causes.{one_more}
-use Rattle.tl_model.specs.Volume.{Name, Volume, Names, volume_code, names_code}
-use Rattle.tl_model.specs.Seen.{Moment, Stretch, Seen, at_rest, changing, saying}
+use Rattle.tl_model.specs.Volume.{Name, Volume, Names, volume_code}
+use Rattle.tl_model.specs.Seen.{Moment, Stretch, Seen, at_rest, changing, saying, moment_code, stretch_code}
 
 -- what stands: what is held, the names touched since the last sync that succeeded, the bytes said, and what was held
 -- at that sync, or as the host was made
@@ -125,18 +125,15 @@ pub record IsCounted (m : Memory) : Type 0 where
 
 -- codes, by which a memory host can be the value of a type
 
-abbrev pub moment_code : Coded Moment
-moment_code = code_by (Volume × (Names × List ℕ)) (coded× volume_code (coded× names_code (coded_list coded_ℕ))) (λ m. (m.held, (m.touched, m.said))) (λ p. record { held = p.0; touched = p.1.0; said = p.1.1 }) (λ _. refl)
-
-abbrev pub stretch_code : Coded Stretch
-stretch_code = code_by (Moment × List ℕ) (coded× moment_code (coded_list coded_ℕ)) (λ m. (record { held = m.held; touched = m.touched; said = m.said }, m.saying)) (λ p. record { held = p.0.held; touched = p.0.touched; said = p.0.said; saying = p.1 }) (λ _. refl)
-
+-- how what stands is coded
 abbrev pub standing_code : Coded Standing
 standing_code = code_by (Moment × Volume) (coded× moment_code volume_code) (λ s. (moment_of s, s.settled)) (λ p. record { held = p.0.held; touched = p.0.touched; said = p.0.said; settled = p.1 }) (λ _. refl)
 
+-- how a recorded call is coded
 abbrev pub step_code : Coded Step
 step_code = code_by (ℕ × (ℕ × (Standing × Stretch))) (coded× coded_ℕ (coded× coded_ℕ (coded× standing_code stretch_code))) (λ s. (s.call, (s.rest, (s.before, s.during)))) (λ p. record { call = p.0; rest = p.1.0; before = p.1.1.0; during = p.1.1.1 }) (λ _. refl)
 
+-- how a host in memory is coded
 abbrev pub memory_code : Coded Memory
 memory_code = code_by (List Step × (ℕ × (Standing × (ℕ × (ℕ × (List ℕ × (ℕ × ℕ)))))))
     (coded× (coded_list step_code) (coded× coded_ℕ (coded× standing_code (coded× coded_ℕ (coded× coded_ℕ (coded× (coded_list coded_ℕ) (coded× coded_ℕ coded_ℕ)))))))

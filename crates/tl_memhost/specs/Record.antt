@@ -59,10 +59,12 @@ settles (Unsaid bytes) settled held = settled
 
 -- the newest entry comes first
 
+-- the names touched after these calls
 abbrev pub touched_of : List Entry → Names
 touched_of [] = set.empty
 touched_of (e ∷ es) = touches e.did (touched_of es)
 
+-- what was held at the last sync that succeeded, by what is held after these calls
 abbrev pub settled_of : List Entry → Volume → Volume
 settled_of [] held = held
 settled_of (e ∷ es) held = settles e.did (settled_of es (unheld e.did held)) (unheld e.did held)
@@ -84,6 +86,7 @@ during (Unsaid bytes) said s = saying bytes.items (moment_of s)
 abbrev pub step_of : Entry → List ℕ → Standing → Step
 step_of e said s = record { call = e.call; rest = e.rest; before = s; during = during e.did said s }
 
+-- these calls of the record, by what is held and said after them
 abbrev pub steps_of : List Entry → Volume → List ℕ → List Step
 steps_of [] held said = []
 steps_of (e ∷ es) held said = step_of e said (standing es (unheld e.did held) (unsaid e.did said)) ∷ steps_of es (unheld e.did held) (unsaid e.did said)

@@ -114,10 +114,12 @@ pub record Says (ok : Bool) (bytes : List ℕ) (old new : Seen) : Type 0 where
   pub syncs : new.syncs ≡ old.syncs
   pub entry : (new.past ≡ old.past ++ saying bytes old.present ∷ []) ⊎ ((ok ≡ false) × Unchanged old new)
 
-abbrev moment_code : Coded Moment
+-- how a moment is coded
+abbrev pub moment_code : Coded Moment
 moment_code = code_by (Volume × (Names × List ℕ)) (coded× volume_code (coded× names_code (coded_list coded_ℕ))) (λ m. (m.held, (m.touched, m.said))) (λ p. record { held = p.0; touched = p.1.0; said = p.1.1 }) (λ _. refl)
 
-abbrev stretch_code : Coded Stretch
+-- how a stretch is coded
+abbrev pub stretch_code : Coded Stretch
 stretch_code = code_by (Moment × List ℕ) (coded× moment_code (coded_list coded_ℕ)) (λ m. (record { held = m.held; touched = m.touched; said = m.said }, m.saying)) (λ p. record { held = p.0.held; touched = p.0.touched; said = p.0.said; saying = p.1 }) (λ _. refl)
 
 -- by which a host can be the value of a type

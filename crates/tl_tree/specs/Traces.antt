@@ -103,6 +103,7 @@ trace_rest_cut first mid last tree events far near =
 
 -- one step from a tree to the next
 module _ (first : Seen) (tree next : Volume) (label : List ℕ) (is_label : IsLabel label) where
+  -- the run of this one step
   abbrev step : List Event
   step = Step next label ∷ []
 
