@@ -1,7 +1,7 @@
 -- The five files of a database.
 use Rattle.std.specs.Prelude.{ℕ, List}
 use Rattle.std.specs.List.{flat_map}
-use Rattle.tl_object.specs.declared.object.Object.{Object}
+use Rattle.tl_entry.specs.declared.object.Object.{Object}
 use Rattle.tl_config.specs.Files.{file_of}
 use Rattle.tl_config.specs.declared.file.ConfigFile.TheVariants.{Updmap, Fmtutil, LanguageDat, LanguageDef, LanguageLua}
 

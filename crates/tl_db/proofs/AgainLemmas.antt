@@ -6,10 +6,10 @@ use Rattle.std.proofs.lemmas.List.{append-nil}
 use Rattle.std.proofs.lemmas.List.Elements.{All-head, All-tail}
 use Rattle.tl_model.specs.Lines.{text_of}
 use Rattle.tl_object.specs.Content.{content, front, behind, is_full, stretches}
-use Rattle.tl_object.specs.Rising.{is_rising}
+use Rattle.tl_entry.specs.Rising.{is_rising}
 use Rattle.tl_object.specs.Reading.{as_object, entry_groups}
 use Rattle.tl_object.specs.Again.{counted, IsFull, ReadsAgain}
-use Rattle.tl_object.specs.declared.object.Object.{Object}
+use Rattle.tl_entry.specs.declared.object.Object.{Object}
 use Rattle.tl_object.specs.declared.fault.LineKind.TheVariants.{Repeated}
 use Rattle.tl_object.proofs.AgainLemmas.{content-lines}
 use Rattle.tl_object.proofs.LastLemmas.{insert-last, absent-last, rising-tail, Follows, follows-none, follows-next}

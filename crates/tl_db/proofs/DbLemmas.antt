@@ -1,9 +1,9 @@
 -- Steps of the reading of a database.
 use Rattle.std.proofs.Common.{◌≡◌, ℕ, true, false, cond, List, [], Result, Ok, Err, sym, ap, subst, ◌∙◌}
 use Rattle.tl_object.specs.Content.{front, behind, is_full, stretches}
-use Rattle.tl_object.specs.Rising.{insert_by, has_key}
+use Rattle.tl_entry.specs.Rising.{insert_by, has_key}
 use Rattle.tl_object.specs.Reading.{as_object, entry_groups, first_name, FailsAt}
-use Rattle.tl_object.specs.declared.object.Object.{Object}
+use Rattle.tl_entry.specs.declared.object.Object.{Object}
 use Rattle.tl_object.specs.declared.fault.ObjectError.{ObjectError}
 use Rattle.tl_object.specs.declared.fault.ObjectError.TheVariants as errors
 use Rattle.tl_object.specs.declared.fault.LineKind.TheVariants.{Repeated}

@@ -2,8 +2,8 @@
 use Rattle.std.proofs.Common.{◌≡◌, ℕ, zero, suc, ◌<◌, Bool, true, false, cond, ◌&&◌, ◌||◌, not, List, [], ◌∷◌, ◌++◌, length, get_or, set, take, drop, Some, None, Result, Ok, Err, refl, sym, ap, subst, ◌∙◌, arith}
 use Rattle.std.specs.Prelude.{find, filter, OnOk}
 use Rattle.tl_model.specs.Volume.{same_name, same_name-is}
-use Rattle.tl_object.specs.Rising.{comes_before, insert_by, has_key, is_rising, is_rising_after}
-use Rattle.tl_object.proofs.RisingLemmas.{before_trans, before_not, before_apart, before_apart_back, present_at, rising-insert}
+use Rattle.tl_entry.specs.Rising.{comes_before, insert_by, has_key, is_rising, is_rising_after}
+use Rattle.tl_entry.proofs.RisingLemmas.{before_trans, before_not, before_apart, before_apart_back, present_at, rising-insert}
 
 both : (a b : Bool) → (a && b) ≡ true → (a ≡ true) × (b ≡ true)
 both true b e = (refl, e)

@@ -16,9 +16,9 @@ use Rattle.tl_model.specs.Words.{fields}
 use Rattle.tl_text.specs.Texts.{IsText, IsText-from}
 use Rattle.tl_path.specs.Bytes.{is_of_platform, is_lower_or_digit}
 use Rattle.tl_path.specs.Names.{is_platform}
-use Rattle.tl_object.specs.Rising.{comes_before, insert_by, has_key}
-use Rattle.tl_object.specs.FilePaths.{rising_of}
-use Rattle.tl_object.specs.declared.object.Object.{Object}
+use Rattle.tl_entry.specs.Rising.{comes_before, insert_by, has_key}
+use Rattle.tl_entry.specs.FilePaths.{rising_of}
+use Rattle.tl_entry.specs.declared.object.Object.{Object}
 use Rattle.tl_db.specs.declared.options.TreeOption.{TreeOption}
 use Rattle.tl_db.specs.declared.options.TreeOption.TheVariants.{Autobackup, Platforms}
 use Rattle.tl_db.specs.Options.{option_prefix, option_default, are_distinct, are_platforms, spelled_number, spelled_platforms, spelled, kept_value, option_value}

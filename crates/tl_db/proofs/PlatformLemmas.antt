@@ -13,9 +13,9 @@ use Rattle.tl_model.specs.Words.{fields}
 use Rattle.tl_model.specs.Volume.{same_name, same_name-refl, same_name-apart}
 use Rattle.tl_path.specs.Names.{is_platform}
 use Rattle.tl_path.specs.Platforms.{ArePlatforms, AreListed, IsFirstBadWord}
-use Rattle.tl_object.specs.Rising.{has_key, is_rising, is_rising_after}
-use Rattle.tl_object.specs.FilePaths.{rising_of}
-use Rattle.tl_object.proofs.SetLemmas.{rising_of_is}
+use Rattle.tl_entry.specs.Rising.{has_key, is_rising, is_rising_after}
+use Rattle.tl_entry.specs.FilePaths.{rising_of}
+use Rattle.tl_entry.proofs.SetLemmas.{rising_of_is}
 use Rattle.tl_db.specs.Options.{are_distinct, are_platforms, spelled_platforms}
 
 abbrev Words : Type 0

@@ -8,8 +8,8 @@ use Rattle.std.proofs.lemmas.Bool.Decides.{nat_tests}
 use Rattle.std.proofs.lemmas.Slice.Eq.{bytes_eq-Decides}
 use Rattle.tl_model.specs.Volume.{same_name, same_name-is, same_name-refl}
 use Rattle.tl_object.specs.Values.{stripped}
-use Rattle.tl_object.specs.Rising.{comes_before, insert_by, has_key}
-use Rattle.tl_object.specs.declared.object.Object.{Object}
+use Rattle.tl_entry.specs.Rising.{comes_before, insert_by, has_key}
+use Rattle.tl_entry.specs.declared.object.Object.{Object}
 use Rattle.tl_db.specs.Entries.{entry_of, others}
 use Rattle.tl_db.specs.declared.options.TreeOption.{TreeOption}
 use Rattle.tl_db.specs.declared.options.TreeOption.TheVariants.{Autobackup, Platforms}

@@ -1,7 +1,7 @@
 -- The entries of a database by their names.
 use Rattle.std.specs.Prelude.{ℕ, not, List, Option, find, filter}
 use Rattle.tl_model.specs.Volume.{same_name}
-use Rattle.tl_object.specs.declared.object.Object.{Object}
+use Rattle.tl_entry.specs.declared.object.Object.{Object}
 
 -- the entry with this name; None where no entry has it
 abbrev pub entry_of : List ℕ → List Object → Option Object

@@ -7,11 +7,11 @@ use Rattle.tl_model.specs.Words.{fields}
 use Rattle.tl_path.specs.Names.{is_platform}
 use Rattle.tl_path.specs.declared.kinds.Category.TheVariants.{TLCore}
 use Rattle.tl_object.specs.Values.{stripped}
-use Rattle.tl_object.specs.Rising.{insert_by, has_key}
-use Rattle.tl_object.specs.FilePaths.{rising_of}
-use Rattle.tl_object.specs.Copies.{no_container}
-use Rattle.tl_object.specs.Groups.{no_files, no_doc_files}
-use Rattle.tl_object.specs.declared.object.Object.{Object}
+use Rattle.tl_entry.specs.Rising.{insert_by, has_key}
+use Rattle.tl_entry.specs.FilePaths.{rising_of}
+use Rattle.tl_entry.specs.Copies.{no_container}
+use Rattle.tl_entry.specs.Sections.{no_files, no_doc_files}
+use Rattle.tl_entry.specs.declared.object.Object.{Object}
 use Rattle.tl_db.specs.Entries.{entry_of, others}
 use Rattle.tl_db.specs.declared.options.TreeOption.{TreeOption}
 use Rattle.tl_db.specs.declared.options.TreeOption.TheVariants.{Autobackup, Platforms}

@@ -1,9 +1,9 @@
 -- The reading of a database.
 use Rattle.std.specs.Prelude.{◌≡◌, ℕ, ◌<◌, ◌≤◌, if◌then◌else◌, List, [], ◌∷◌, length, Result, Ok, Err}
 use Rattle.tl_object.specs.Content.{content, stretches}
-use Rattle.tl_object.specs.Rising.{insert_by, has_key}
+use Rattle.tl_entry.specs.Rising.{insert_by, has_key}
 use Rattle.tl_object.specs.Reading.{as_object, entry_groups, first_name}
-use Rattle.tl_object.specs.declared.object.Object.{Object}
+use Rattle.tl_entry.specs.declared.object.Object.{Object}
 use Rattle.tl_object.specs.declared.fault.LineKind.{LineKind}
 use Rattle.tl_object.specs.declared.fault.LineKind.TheVariants.{Repeated}
 use Rattle.tl_db.specs.declared.fault.What.TheVariants as what

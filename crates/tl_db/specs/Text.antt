@@ -1,7 +1,7 @@
 -- The text of a database.
 use Rattle.std.specs.Prelude.{ℕ, List, [], ◌∷◌, ◌++◌}
 use Rattle.std.specs.List.{flat_map}
-use Rattle.tl_object.specs.declared.object.Object.{Object}
+use Rattle.tl_entry.specs.declared.object.Object.{Object}
 use Rattle.tl_object.specs.Writing.{object_text}
 
 -- an entry and the empty line behind it

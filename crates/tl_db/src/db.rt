@@ -2,8 +2,8 @@
 ghost use Rattle.std.specs.Prelude.{◌≡◌, ◌<◌, ◌≤◌, List, [], true, false, IfOk, OnOk, OnErr, MatchOption, length, slice_index_or, option_copied};
 ghost use Rattle.std.specs.Iterator.{YieldsFirstRef, item_count};
 ghost use Rattle.tl_model.specs.Volume.{same_name};
-ghost use Rattle.tl_object.specs.declared.object.Object.{Object};
-ghost use Rattle.tl_object.specs.Rising.{is_rising, has_key, insert_by};
+ghost use Rattle.tl_entry.specs.declared.object.Object.{Object};
+ghost use Rattle.tl_entry.specs.Rising.{is_rising, has_key, insert_by};
 ghost use Rattle.tl_db.specs.Entries.{entry_of, others};
 
 use std::alloc::{AllocError, Global};
@@ -39,8 +39,8 @@ fn place_of(objects: &[Object], name: &[u8]) -> Option<usize>
 
 impl Model for Db {
     ghost use Rattle.std.specs.Prelude.{◌≡◌, List, true};
-    ghost use Rattle.tl_object.specs.declared.object.Object.{Object};
-    ghost use Rattle.tl_object.specs.Rising.{is_rising};
+    ghost use Rattle.tl_entry.specs.declared.object.Object.{Object};
+    ghost use Rattle.tl_entry.specs.Rising.{is_rising};
 
     ghost Value = { List Object };
 

@@ -4,7 +4,7 @@ ghost use Rattle.std.specs.Prelude.{slice_set};
 ghost use Rattle.tl_model.specs.Lines.{IsLine};
 ghost use Rattle.tl_text.specs.Texts.{is_text};
 ghost use Rattle.tl_object.specs.Values.{stripped};
-ghost use Rattle.tl_object.specs.Groups.{no_files, no_doc_files};
+ghost use Rattle.tl_entry.specs.Sections.{no_files, no_doc_files};
 ghost use Rattle.tl_db.specs.Entries.{entry_of};
 ghost use Rattle.tl_db.specs.Options.{option_prefix, installation, first_after, kept_value, option_value, option_of, with_line, no_options, entry_with, with_option, spelling_of, IsOptionFault, IsUnknown};
 

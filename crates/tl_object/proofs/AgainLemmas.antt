@@ -7,8 +7,8 @@ use Rattle.std.proofs.lemmas.List.Elements.{All-nil, All-head, All-tail}
 use Rattle.tl_model.specs.Lines.{lines, lines-line, text_of}
 use Rattle.tl_path.specs.Names.{is_name}
 use Rattle.tl_object.specs.Content.{is_comment, numbered, content}
-use Rattle.tl_object.specs.Parts.{FileEntry}
-use Rattle.tl_object.specs.Rising.{is_rising, insert_by}
+use Rattle.tl_entry.specs.Parts.{FileEntry}
+use Rattle.tl_entry.specs.Rising.{is_rising, insert_by}
 use Rattle.tl_object.specs.Values.{◌>>=◌}
 use Rattle.tl_object.specs.Grammar.{line_value}
 use Rattle.tl_object.specs.Groups.{Group, only, name_of, is_repeated}

@@ -9,9 +9,9 @@ use Rattle.hex.specs.Hex.{encode_lower}
 use Rattle.tl_text.specs.Texts.{IsText, is_text}
 use Rattle.tl_path.specs.Path.{IsPath}
 use Rattle.tl_path.specs.declared.kinds.Category.{Category}
-use Rattle.tl_object.specs.Parts.{FileEntry, FactEntry}
-use Rattle.tl_object.specs.Rising.{is_rising, insert_by}
-use Rattle.tl_object.specs.Groups.{paths_of}
+use Rattle.tl_entry.specs.Parts.{FileEntry, FactEntry}
+use Rattle.tl_entry.specs.Rising.{is_rising, insert_by}
+use Rattle.tl_entry.specs.Sections.{paths_of}
 use Rattle.tl_object.specs.Built.{put}
 use Rattle.tl_object.specs.Known.{is_known, container_of}
 use Rattle.tl_object.specs.Reading.{place_of}
@@ -24,12 +24,12 @@ use Rattle.tl_object.specs.declared.head.Place.{Place}
 use Rattle.tl_object.specs.declared.head.Place.TheVariants.{Plain, Marked}
 use Rattle.tl_object.specs.declared.key.Part.{Part}
 use Rattle.tl_object.specs.declared.key.Part.TheVariants.{Run, Doc, Src}
-use Rattle.tl_object.specs.declared.object.Container.{Container}
-use Rattle.tl_object.specs.declared.object.Files.{Files}
-use Rattle.tl_object.specs.declared.object.DocFiles.{DocFiles}
-use Rattle.tl_object.specs.declared.object.BinFiles.{BinFiles}
+use Rattle.tl_entry.specs.declared.object.Container.{Container}
+use Rattle.tl_entry.specs.declared.object.Files.{Files}
+use Rattle.tl_entry.specs.declared.object.DocFiles.{DocFiles}
+use Rattle.tl_entry.specs.declared.object.BinFiles.{BinFiles}
 use Rattle.tl_object.specs.declared.builder.Builder.{Builder}
-use Rattle.tl_object.proofs.RisingLemmas.{rising-map}
+use Rattle.tl_entry.proofs.RisingLemmas.{rising-map}
 use Rattle.tl_object.proofs.LastLemmas.{insert-last, absent-last, rising-tail, Follows, follows-next}
 use Rattle.tl_object.proofs.HeadLemmas.{IsHead, text_head, category_head, revision_head, relocated_head, size_key, size_head, digest_key, digest_head, files_key, files_head, sized, arched, bin_head, fact_head, formed_by}
 use Rattle.tl_object.proofs.AgainLemmas.{Leads, leads-nil, leads-append, leads-line, leads-section, Allowed}

@@ -14,8 +14,8 @@ use Rattle.tl_path.specs.Bytes.{is_barred}
 use Rattle.tl_path.specs.Path.{IsPath}
 use Rattle.tl_path.specs.declared.fault.PathFault.{PathFault}
 use Rattle.tl_object.specs.Cuts.{cut}
-use Rattle.tl_object.specs.Forms.{has_no_quote}
-use Rattle.tl_object.specs.Parts.{FileEntry}
+use Rattle.tl_entry.specs.Forms.{has_no_quote}
+use Rattle.tl_entry.specs.Parts.{FileEntry}
 use Rattle.tl_object.specs.Values.{◌>>=◌, formed, path_value, stripped}
 use Rattle.tl_object.specs.Grammar.{line_value, line_form, file_value, file_with, marked_file, marks_value, marks_from, mark_value, second_mark, last_mark, quoted, language_word}
 use Rattle.tl_object.specs.Writing.{mark_text}

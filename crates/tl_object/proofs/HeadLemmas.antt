@@ -16,8 +16,8 @@ use Rattle.tl_path.specs.Names.{is_name}
 use Rattle.tl_path.specs.declared.kinds.Category.{Category}
 use Rattle.tl_path.specs.declared.kinds.Category.TheVariants.{Package, TLCore, ConTeXt, Collection, Scheme}
 use Rattle.tl_object.specs.Cuts.{cut}
-use Rattle.tl_object.specs.Forms.{is_platform_byte, is_platform, is_fact_byte}
-use Rattle.tl_object.specs.Parts.{FactEntry}
+use Rattle.tl_entry.specs.Forms.{is_platform_byte, is_platform, is_fact_byte}
+use Rattle.tl_entry.specs.Parts.{FactEntry}
 use Rattle.tl_object.specs.Keys.{key_of}
 use Rattle.tl_object.specs.Values.{◌>>=◌, formed, number_value, blocks_value, blocks_after, bin_value, bin_parts, arch_in_either, digest_value, stripped}
 use Rattle.tl_object.specs.Grammar.{line_value, line_form, head_value, head_from, head_by, keyed, fact_of, fact_with}

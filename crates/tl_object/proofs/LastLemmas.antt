@@ -1,9 +1,9 @@
 -- An element that comes behind all others of a rising list.
 use Rattle.std.proofs.Common.{◌≡◌, ℕ, Bool, true, false, cond, ◌&&◌, ◌||◌, List, [], ◌∷◌, ◌++◌, refl, ◌∙◌, ap}
 use Rattle.std.specs.List.{list_all}
-use Rattle.tl_object.specs.Rising.{comes_before, insert_by, has_key, is_rising}
+use Rattle.tl_entry.specs.Rising.{comes_before, insert_by, has_key, is_rising}
 use Rattle.tl_object.proofs.ValueLemmas.{both}
-use Rattle.tl_object.proofs.RisingLemmas.{before_trans, before_not, before_apart}
+use Rattle.tl_entry.proofs.RisingLemmas.{before_trans, before_not, before_apart}
 
 joined : (a b : Bool) → a ≡ true → b ≡ true → (a && b) ≡ true
 joined a b p q = ap (λ t. t && b) p ∙ q

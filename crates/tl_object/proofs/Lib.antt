@@ -1,7 +1,5 @@
 pub mod CutLemmas
 pub mod LineLemmas
-pub mod RisingLemmas
-pub mod SetLemmas
 pub mod BuiltLemmas
 pub mod ReadingLemmas
 pub mod StretchLemmas

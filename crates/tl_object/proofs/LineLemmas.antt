@@ -11,7 +11,7 @@ use Rattle.tl_text.specs.declared.text.TextError.{TextError}
 use Rattle.tl_text.specs.declared.text.TextError.TheVariants.{NotText}
 use Rattle.tl_text.specs.Texts.{is_text, IsText, IsText-from, IsTextFault}
 use Rattle.tl_object.specs.Cuts.{cut, onto_front}
-use Rattle.tl_object.specs.Forms.{is_fact_byte, is_fact_key, has_no_quote}
+use Rattle.tl_entry.specs.Forms.{is_fact_byte, is_fact_key, has_no_quote}
 use Rattle.tl_object.specs.Grammar.{line_value, line_form}
 use Rattle.tl_object.specs.declared.fault.LineKind.TheVariants as kinds
 

@@ -17,8 +17,8 @@ use Rattle.tl_path.specs.Bytes.{is_barred}
 use Rattle.tl_path.specs.Path.{IsPath, fault, or_else, earlier, size_fault, utf8_fault, byte_fault, component_fault, place_fault}
 use Rattle.tl_path.specs.declared.fault.PathFault.{PathFault}
 use Rattle.tl_path.specs.declared.fault.PathKind.TheVariants.{Byte}
-use Rattle.tl_object.specs.Forms.{is_platform_byte, is_platform}
-use Rattle.tl_object.specs.Parts.{FileEntry, FactEntry}
+use Rattle.tl_entry.specs.Forms.{is_platform_byte, is_platform}
+use Rattle.tl_entry.specs.Parts.{FileEntry, FactEntry}
 use Rattle.tl_object.specs.Plain.{is_key}
 use Rattle.tl_object.specs.Writing.{key_line, path_line, mark_text, file_line, section_line, fact_line}
 

@@ -2,14 +2,14 @@
 use Rattle.std.proofs.Common.{◌≡◌, ℕ, Bool, true, false, cond, not, List, [], ◌∷◌, ◌++◌, Result, Ok, Err, refl, sym, ap, subst, ◌∙◌}
 use Rattle.std.specs.Prelude.{is_some}
 use Rattle.std.specs.Str.{is_utf8}
-use Rattle.tl_object.specs.Parts.{FileEntry}
+use Rattle.tl_entry.specs.Parts.{FileEntry}
 use Rattle.tl_object.specs.Values.{◌>>=◌, Fails}
 use Rattle.tl_object.specs.Grammar.{line_value, line_form, head_value, file_value}
 use Rattle.tl_object.specs.Groups.{Group, only, name_of}
 use Rattle.tl_object.specs.Reading.{placed, place_of, with_file, with_line, next_groups, at_line, reading, entry_groups, as_object, first_name, name_at, FailsAt}
 use Rattle.tl_object.specs.Steps.{is_file_line, file_step, file_in, head_step, head_in, head_is_next, IsSection, fault_at}
 use Rattle.tl_object.specs.declared.fault.ObjectError.TheVariants as errors
-use Rattle.tl_object.specs.declared.object.Object.{Object}
+use Rattle.tl_entry.specs.declared.object.Object.{Object}
 use Rattle.tl_object.specs.Built.{built, put, finished}
 use Rattle.tl_object.specs.Known.{is_known}
 use Rattle.tl_object.specs.declared.fault.LineKind.{LineKind}

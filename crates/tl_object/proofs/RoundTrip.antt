@@ -6,7 +6,8 @@ use Rattle.std.proofs.lemmas.Bool.{eqb-true}
 use Rattle.std.proofs.lemmas.List.{append-nil, nil_from_length}
 use Rattle.tl_model.specs.Lines.{text_of}
 use Rattle.tl_object.specs.Content.{content}
-use Rattle.tl_object.specs.Groups.{Group, object_of, no_files, no_doc_files}
+use Rattle.tl_object.specs.Groups.{Group, object_of}
+use Rattle.tl_entry.specs.Sections.{no_files, no_doc_files}
 use Rattle.tl_object.specs.Reading.{as_object, entry_groups, first_name, entry_of}
 use Rattle.tl_object.specs.Built.{built, finished}
 use Rattle.tl_object.specs.Writing.{key_line, number_line, text_line, text_lines, category_word, container_lines, files_lines, doc_lines, bin_lines, relocated_line, first_lines, middle_lines, file_lines, object_text}
@@ -14,9 +15,9 @@ use Rattle.tl_object.specs.Formed.{IsFormedFact, HasFormedFront, HasFormedTexts,
 use Rattle.tl_object.specs.Again.{counted, ReadsAgain}
 use Rattle.tl_object.specs.declared.fault.LineKind.{LineKind}
 use Rattle.tl_object.specs.declared.key.Part.TheVariants.{Run, Doc, Src}
-use Rattle.tl_object.specs.declared.object.Files.{Files}
-use Rattle.tl_object.specs.declared.object.DocFiles.{DocFiles}
-use Rattle.tl_object.specs.declared.object.Object.{Object}
+use Rattle.tl_entry.specs.declared.object.Files.{Files}
+use Rattle.tl_entry.specs.declared.object.DocFiles.{DocFiles}
+use Rattle.tl_entry.specs.declared.object.Object.{Object}
 use Rattle.tl_object.specs.declared.builder.Builder.{Builder}
 use Rattle.tl_object.proofs.ValueLemmas.{both}
 use Rattle.tl_object.proofs.LastLemmas.{follows-none}

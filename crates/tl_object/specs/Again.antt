@@ -5,7 +5,7 @@ use Rattle.tl_model.specs.Lines.{IsLine, text_of}
 use Rattle.tl_object.specs.Content.{is_comment}
 use Rattle.tl_object.specs.Reading.{as_object, entry_groups, first_name}
 use Rattle.tl_object.specs.Writing.{object_text}
-use Rattle.tl_object.specs.declared.object.Object.{Object}
+use Rattle.tl_entry.specs.declared.object.Object.{Object}
 
 -- some lines with their numbers, where this many lines stand before them
 abbrev pub counted : ℕ → List (List ℕ) → List (ℕ × List ℕ)

@@ -1,9 +1,10 @@
 -- What a reader keeps of the groups that it has read.
 use Rattle.std.specs.Prelude.{false, List, [], ◌∷◌, ◌++◌, Some, unwrap_or}
-use Rattle.tl_object.specs.Parts.{FileEntry}
-use Rattle.tl_object.specs.Groups.{Group, only, every, name_of, category_of, revision_of, catalogue_of, shortdesc_of, relocated_of, longdesc_of, depend_of, execute_of, postaction_of, fact_of, container, files_of, doc_of, bins, paths_of, with_bin, no_files, no_doc_files}
+use Rattle.tl_entry.specs.Parts.{FileEntry}
+use Rattle.tl_object.specs.Groups.{Group, only, every, name_of, category_of, revision_of, catalogue_of, shortdesc_of, relocated_of, longdesc_of, depend_of, execute_of, postaction_of, fact_of, container, files_of, doc_of, bins, with_bin}
+use Rattle.tl_entry.specs.Sections.{paths_of, no_files, no_doc_files}
 use Rattle.tl_path.specs.declared.kinds.Category.TheVariants.{Package}
-use Rattle.tl_object.specs.declared.object.Object.{Object}
+use Rattle.tl_entry.specs.declared.object.Object.{Object}
 use Rattle.tl_object.specs.declared.key.Part.TheVariants.{Run, Doc, Src}
 use Rattle.tl_object.specs.declared.head.Head.{Head}
 use Rattle.tl_object.specs.declared.head.Head.TheVariants as heads

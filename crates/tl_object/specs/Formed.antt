@@ -4,14 +4,14 @@ use Rattle.hex.specs.Hex.{IsBytes}
 use Rattle.tl_text.specs.Texts.{IsText}
 use Rattle.tl_path.specs.Names.{is_name}
 use Rattle.tl_path.specs.Path.{IsPath}
-use Rattle.tl_object.specs.Forms.{is_platform, is_fact_key, has_no_quote}
-use Rattle.tl_object.specs.Parts.{FileEntry, FactEntry}
-use Rattle.tl_object.specs.Rising.{is_rising}
-use Rattle.tl_object.specs.declared.object.Container.{Container}
-use Rattle.tl_object.specs.declared.object.Files.{Files}
-use Rattle.tl_object.specs.declared.object.DocFiles.{DocFiles}
-use Rattle.tl_object.specs.declared.object.BinFiles.{BinFiles}
-use Rattle.tl_object.specs.declared.object.Object.{Object}
+use Rattle.tl_entry.specs.Forms.{is_platform, is_fact_key, has_no_quote}
+use Rattle.tl_entry.specs.Parts.{FileEntry, FactEntry}
+use Rattle.tl_entry.specs.Rising.{is_rising}
+use Rattle.tl_entry.specs.declared.object.Container.{Container}
+use Rattle.tl_entry.specs.declared.object.Files.{Files}
+use Rattle.tl_entry.specs.declared.object.DocFiles.{DocFiles}
+use Rattle.tl_entry.specs.declared.object.BinFiles.{BinFiles}
+use Rattle.tl_entry.specs.declared.object.Object.{Object}
 
 -- a text that may be absent is one of one line
 abbrev pub IsFormedText : Option (List ℕ) → Type 0

@@ -4,7 +4,7 @@ use Rattle.std.specs.Option.{option_and_then}
 use Rattle.std.specs.Str.{is_utf8}
 use Rattle.tl_text.specs.Texts.{is_text}
 use Rattle.tl_object.specs.Cuts.{cut}
-use Rattle.tl_object.specs.Forms.{is_fact_key}
+use Rattle.tl_entry.specs.Forms.{is_fact_key}
 use Rattle.tl_object.specs.Keys.{key_of}
 use Rattle.tl_object.specs.Values.{◌>>=◌, formed, text_value, name_value, path_value, number_value, category_value, flag_value, digest_value, stripped, blocks_value, bin_value}
 use Rattle.tl_object.specs.declared.fault.LineKind.{LineKind}
@@ -15,7 +15,7 @@ use Rattle.tl_object.specs.declared.head.Head.{Head}
 use Rattle.tl_object.specs.declared.head.Head.TheVariants as heads
 use Rattle.tl_object.specs.declared.head.Line.{Line}
 use Rattle.tl_object.specs.declared.head.Line.TheVariants as lines
-use Rattle.tl_object.specs.Parts.{FileEntry}
+use Rattle.tl_entry.specs.Parts.{FileEntry}
 
 -- ---- the lines of files
 

@@ -1,19 +1,20 @@
 -- The lines of an entry in groups, and what they say together.
-use Rattle.std.specs.Prelude.{ℕ, Bool, true, false, if◌then◌else◌, List, [], map, fold, Option, Some, None, is_some, unwrap_or}
+use Rattle.std.specs.Prelude.{ℕ, Bool, true, false, if◌then◌else◌, List, [], fold, Option, Some, None, is_some, unwrap_or}
 use Rattle.std.specs.List.{filter_map}
 use Rattle.tl_path.specs.declared.kinds.Category.{Category}
 use Rattle.tl_path.specs.declared.kinds.Category.TheVariants.{Package}
-use Rattle.tl_object.specs.Parts.{FileEntry, FactEntry}
-use Rattle.tl_object.specs.Rising.{insert_by, has_key}
+use Rattle.tl_entry.specs.Parts.{FileEntry, FactEntry}
+use Rattle.tl_entry.specs.Rising.{insert_by, has_key}
+use Rattle.tl_entry.specs.Sections.{paths_of, no_files, no_doc_files}
 use Rattle.tl_object.specs.declared.key.Part.{Part}
 use Rattle.tl_object.specs.declared.key.Part.TheVariants.{Run, Doc, Src}
 use Rattle.tl_object.specs.declared.head.Head.{Head}
 use Rattle.tl_object.specs.declared.head.Head.TheVariants as heads
-use Rattle.tl_object.specs.declared.object.Container.{Container}
-use Rattle.tl_object.specs.declared.object.Files.{Files}
-use Rattle.tl_object.specs.declared.object.DocFiles.{DocFiles}
-use Rattle.tl_object.specs.declared.object.BinFiles.{BinFiles}
-use Rattle.tl_object.specs.declared.object.Object.{Object}
+use Rattle.tl_entry.specs.declared.object.Container.{Container}
+use Rattle.tl_entry.specs.declared.object.Files.{Files}
+use Rattle.tl_entry.specs.declared.object.DocFiles.{DocFiles}
+use Rattle.tl_entry.specs.declared.object.BinFiles.{BinFiles}
+use Rattle.tl_entry.specs.declared.object.Object.{Object}
 
 -- a line that is no file's, with the files of the lines of files that directly follow it, in rising order of their paths
 pub record Group : Type 0 where
@@ -161,10 +162,6 @@ digest_of part group = digest_in part group.head
 abbrev pub container : Part → List Group → Container
 container part groups = record { size = only (size_of part) groups; digest = only (digest_of part) groups }
 
--- the paths of some files
-abbrev pub paths_of : List FileEntry → List (List ℕ)
-paths_of files = map (λ (f : FileEntry). f.path) files
-
 -- a part's section that a line begins, with the paths of these files
 abbrev pub files_in : Part → Head → List FileEntry → Option Files
 files_in part (heads.Files own blocks) files = if same_part own part then Some (record { blocks = blocks; paths = paths_of files }) else None
@@ -196,14 +193,6 @@ with_bin (Some bin) bins = insert_by (λ (b : BinFiles). b.platform) bin bins
 -- the sections of binaries, in rising order of their platforms
 abbrev pub bins : List Group → List BinFiles
 bins groups = fold (λ before group. with_bin (bin_in group.head group.files) before) [] groups
-
--- the section of an entry that states none
-abbrev pub no_files : Files
-no_files = record { blocks = 0; paths = [] }
-
--- the section of documentation of an entry that states none
-abbrev pub no_doc_files : DocFiles
-no_doc_files = record { blocks = 0; files = [] }
 
 -- the entry that some groups say
 abbrev pub object_of : List Group → Object

@@ -1,12 +1,12 @@
 -- What stands already among the parts that a reader keeps.
 use Rattle.std.specs.Prelude.{Bool, true, false, is_some}
-use Rattle.tl_object.specs.Rising.{has_key}
-use Rattle.tl_object.specs.declared.object.Container.{Container}
+use Rattle.tl_entry.specs.Rising.{has_key}
+use Rattle.tl_entry.specs.declared.object.Container.{Container}
 use Rattle.tl_object.specs.declared.key.Part.{Part}
 use Rattle.tl_object.specs.declared.key.Part.TheVariants.{Run, Doc, Src}
 use Rattle.tl_object.specs.declared.head.Head.{Head}
 use Rattle.tl_object.specs.declared.head.Head.TheVariants as heads
-use Rattle.tl_object.specs.declared.object.BinFiles.{BinFiles}
+use Rattle.tl_entry.specs.declared.object.BinFiles.{BinFiles}
 use Rattle.tl_object.specs.declared.builder.Builder.{Builder}
 
 -- what is known of a part's container

@@ -1,10 +1,7 @@
 pub mod Keys
 pub mod Content
 pub mod Cuts
-pub mod Forms
 pub mod Values
-pub mod Parts
-pub mod Rising
 pub mod Grammar
 pub mod Groups
 pub mod Reading
@@ -13,7 +10,5 @@ pub mod Known
 pub mod Writing
 pub mod Steps
 pub mod Plain
-pub mod Copies
-pub mod FilePaths
 pub mod Formed
 pub mod Again

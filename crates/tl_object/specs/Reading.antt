@@ -3,8 +3,8 @@ use Rattle.std.specs.Prelude.{◌≡◌, ℕ, Bool, ◌||◌, if◌then◌else�
 use Rattle.std.specs.Str.{bytes_eq}
 use Rattle.tl_object.specs.Content.{content}
 use Rattle.tl_object.specs.Cuts.{cut}
-use Rattle.tl_object.specs.Parts.{FileEntry}
-use Rattle.tl_object.specs.Rising.{insert_by, has_key}
+use Rattle.tl_entry.specs.Parts.{FileEntry}
+use Rattle.tl_entry.specs.Rising.{insert_by, has_key}
 use Rattle.tl_object.specs.Values.{◌>>=◌}
 use Rattle.tl_object.specs.Grammar.{line_value}
 use Rattle.tl_object.specs.Groups.{Group, object_of, is_repeated, only, name_of}
@@ -19,7 +19,7 @@ use Rattle.tl_object.specs.declared.head.Head.{Head}
 use Rattle.tl_object.specs.declared.head.Head.TheVariants as heads
 use Rattle.tl_object.specs.declared.head.Line.{Line}
 use Rattle.tl_object.specs.declared.head.Line.TheVariants as lines
-use Rattle.tl_object.specs.declared.object.Object.{Object}
+use Rattle.tl_entry.specs.declared.object.Object.{Object}
 
 -- whether lines of files may follow a line, and whether they may state details and a language
 abbrev pub place_of : Head → Place

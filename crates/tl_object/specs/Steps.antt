@@ -1,6 +1,6 @@
 -- One step of the reading of an entry.
 use Rattle.std.specs.Prelude.{◌≡◌, ℕ, ◌==◌, Bool, true, false, not, if◌then◌else◌, List, [], ◌∷◌, ◌++◌, Result, Ok, Err}
-use Rattle.tl_object.specs.Parts.{FileEntry}
+use Rattle.tl_entry.specs.Parts.{FileEntry}
 use Rattle.tl_object.specs.Values.{◌>>=◌}
 use Rattle.tl_object.specs.Grammar.{line_value}
 use Rattle.tl_object.specs.Groups.{Group}

@@ -5,12 +5,12 @@ use Rattle.tl_model.specs.Decimal.{decimal_text}
 use Rattle.hex.specs.Hex.{encode_lower}
 use Rattle.tl_path.specs.declared.kinds.Category.{Category}
 use Rattle.tl_path.specs.declared.kinds.Category.TheVariants.{Package, TLCore, ConTeXt, Collection, Scheme}
-use Rattle.tl_object.specs.Parts.{FileEntry, FactEntry}
-use Rattle.tl_object.specs.declared.object.Container.{Container}
-use Rattle.tl_object.specs.declared.object.Files.{Files}
-use Rattle.tl_object.specs.declared.object.DocFiles.{DocFiles}
-use Rattle.tl_object.specs.declared.object.BinFiles.{BinFiles}
-use Rattle.tl_object.specs.declared.object.Object.{Object}
+use Rattle.tl_entry.specs.Parts.{FileEntry, FactEntry}
+use Rattle.tl_entry.specs.declared.object.Container.{Container}
+use Rattle.tl_entry.specs.declared.object.Files.{Files}
+use Rattle.tl_entry.specs.declared.object.DocFiles.{DocFiles}
+use Rattle.tl_entry.specs.declared.object.BinFiles.{BinFiles}
+use Rattle.tl_entry.specs.declared.object.Object.{Object}
 
 -- the line of a key and its value, with its end
 unfoldable pub key_line : List ℕ → List ℕ → List ℕ

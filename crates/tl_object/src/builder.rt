@@ -1,13 +1,15 @@
 //! The parts of an entry, as its lines are read.
 ghost use Rattle.std.specs.Prelude.{◌≡◌, [], None, OnOk, IfOk, true, false, unwrap_or};
 ghost use Rattle.tl_path.specs.declared.kinds.Category.TheVariants.{Package};
-ghost use Rattle.tl_object.specs.Groups.{no_files, no_doc_files};
+ghost use Rattle.tl_entry.specs.Sections.{no_files, no_doc_files};
 
 use crate::head::Head;
 use crate::key::Part;
-use crate::lists::{BinList, DocFileList, Facts, Paths, PlatformName, Texts};
-use crate::object::{BinFiles, Container, DocFiles, Files, Object};
 use std::alloc::{AllocError, Global};
+use tl_entry::{
+    BinFiles, BinList, Container, DocFileList, DocFiles, Facts, Files, Object, Paths, PlatformName,
+    Texts,
+};
 use tl_path::{Category, Name};
 use tl_text::Text;
 
@@ -41,7 +43,7 @@ const NO_CONTAINER: Container = Container {
 
 impl Builder {
     ghost use Rattle.tl_object.specs.declared.head.Head.TheVariants as heads;
-    ghost use Rattle.tl_object.specs.Rising.{has_key};
+    ghost use Rattle.tl_entry.specs.Rising.{has_key};
     ghost use Rattle.tl_object.specs.Built.{built, put, finished};
     ghost use Rattle.tl_object.specs.Known.{is_known, container_of};
 

@@ -1,14 +1,14 @@
 //! The lines of files.
 ghost use Rattle.std.specs.Prelude.{◌≡◌, List, IfOk, IfSome, MatchOption, Some, None, true};
-ghost use Rattle.tl_object.specs.Forms.{has_no_quote, is_unquoted};
+ghost use Rattle.tl_entry.specs.Forms.{has_no_quote, is_unquoted};
 ghost use Rattle.tl_object.specs.Values.{Gives};
 ghost use Rattle.tl_object.specs.Grammar.{quoted, mark_value, second_mark, marked_file, file_value};
 
 use crate::fault::{LineFault, LineKind};
-use crate::object::DocFile;
 use crate::source::cut_at;
 use crate::value::{after_word, path_of};
 use std::alloc::Global;
+use tl_entry::DocFile;
 use tl_path::Path;
 use tl_text::{Text, TextError};
 

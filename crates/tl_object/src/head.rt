@@ -1,22 +1,20 @@
 //! What a line of an entry says.
 ghost use Rattle.std.specs.Prelude.{◌≡◌, List, IfOk, true};
-ghost use Rattle.tl_object.specs.Forms.{is_fact_key};
+ghost use Rattle.tl_entry.specs.Forms.{is_fact_key};
 ghost use Rattle.tl_object.specs.Values.{Gives};
 ghost use Rattle.tl_object.specs.Reading.{place_of};
 ghost use Rattle.tl_object.specs.Grammar.{head_of, fact_of, keyed, head_value, line_form, line_value};
 
 use crate::fault::{LineFault, LineKind};
 use crate::file::file_of;
-use crate::form::is_fact_key;
 use crate::key::{Key, Part, key_of};
-use crate::lists::PlatformName;
-use crate::object::{DocFile, Fact};
 use crate::source::cut_at;
 use crate::value::{
     after_word, bin_of, blocks_of, category_of, digest_of, flag_of, name_of, number_of,
     small_number_of, text_of,
 };
 use std::alloc::{AllocError, Global};
+use tl_entry::{DocFile, Fact, PlatformName, is_fact_key};
 use tl_path::{Category, Name};
 use tl_text::{Text, TextError};
 

@@ -12,10 +12,9 @@ ghost use Rattle.tl_object.specs.Steps.{is_file_line, file_step, head_step, head
 use crate::builder::Builder;
 use crate::fault::{LineFault, LineKind, ObjectError};
 use crate::head::{Head, Line, Place, line_of, place_of};
-use crate::lists::DocFileList;
-use crate::object::{DocFile, Object};
 use crate::source::{cut_at, next_entry_line};
 use std::alloc::Global;
+use tl_entry::{DocFile, DocFileList, Object};
 use tl_path::Name;
 
 /// The files of the lines that follow a line, and the text behind them.

@@ -1,15 +1,14 @@
 //! The values of an entry's lines.
 ghost use Rattle.std.specs.Prelude.{◌≡◌, ◌^◌, List, IfOk, option_copied};
-ghost use Rattle.tl_object.specs.Forms.{is_platform};
+ghost use Rattle.tl_entry.specs.Forms.{is_platform};
 ghost use Rattle.tl_object.specs.declared.fault.LineKind.TheVariants as kinds;
 ghost use Rattle.tl_object.specs.Values.{Gives, formed, text_value, name_value, path_value, number_value, category_value, flag_value, digest_value, stripped, blocks_value, platform_with, bin_value};
 
 use crate::fault::{LineFault, LineKind};
-use crate::form::is_platform;
-use crate::lists::PlatformName;
 use crate::source::cut_at;
 use hex::FromHex;
 use std::alloc::Global;
+use tl_entry::{PlatformName, is_platform};
 use tl_path::{Category, Name, NameError, Path, PathError};
 use tl_text::{Text, TextError, decimal_u32, decimal_u64};
 

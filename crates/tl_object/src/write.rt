@@ -7,17 +7,17 @@ ghost use Rattle.tl_model.specs.Acks.{IsPlain};
 ghost use Rattle.hex.specs.Hex.{encode_lower};
 ghost use Rattle.tl_text.specs.Texts.{IsText};
 ghost use Rattle.tl_path.specs.Path.{IsPath};
-ghost use Rattle.tl_object.specs.Forms.{is_platform};
+ghost use Rattle.tl_entry.specs.Forms.{is_platform};
 ghost use Rattle.tl_object.specs.Plain.{is_key};
 ghost use Rattle.tl_object.specs.Formed.{IsFormedText, IsFormedSize, IsDigest, IsFormedDigest, IsFormedBox, IsFormedFile, IsFormedDoc, IsFormedSection, IsFormedBin, IsFormedFact, HasFormedFront, HasFormedTexts, HasFormedFiles};
 ghost use Rattle.tl_object.specs.Again.{ReadsAgain};
 ghost use Rattle.tl_object.specs.Reading.{entry_of};
 ghost use Rattle.tl_object.specs.Writing.{key_line, number_line, text_line, text_lines, category_word, size_line, digest_line, container_lines, path_line, mark_text, file_line, section_line, files_lines, doc_lines, bin_line, bin_lines, relocated_line, fact_line, first_lines, middle_lines, file_lines, object_text};
 
-use crate::object::{BinFiles, Container, DocFile, DocFiles, Fact, Files, Object};
 use hex::encode_to_slice;
 use itoa::Buffer;
 use std::alloc::{AllocError, Global};
+use tl_entry::{BinFiles, Container, DocFile, DocFiles, Fact, Files, Object};
 use tl_path::{Category, Path};
 use tl_text::Text;
 

@@ -9,7 +9,7 @@ use Rattle.std.proofs.lemmas.List.Elements.{All-nil, All-cons, All-append}
 use Rattle.std.proofs.lemmas.List.Kept.{AllPairs-cons}
 use Rattle.tl_model.specs.Lines.{IsLine}
 use Rattle.tl_model.specs.Acks.{IsLabel, IsPlain, acks, plain-line, plain-nil}
-use Rattle.tl_object.specs.declared.object.Object.{Object}
+use Rattle.tl_entry.specs.declared.object.Object.{Object}
 use Rattle.tl_db.specs.Options.{option_name, option_named, entry_with, entry_setting}
 use Rattle.tl_db.specs.declared.options.TreeOption.{TreeOption}
 use Rattle.tl_db.specs.declared.options.TreeOption.TheVariants.{Autobackup, Platforms}

@@ -8,7 +8,7 @@ use Rattle.tl_model.specs.Pictures.{since_could}
 use Rattle.tl_model.specs.Trace.{Event, Text, said_by, tree_after, IsCut, Pictures, Trace, Cut, Paused}
 use Rattle.tl_model.specs.Joins.{trace_start, trace_quiet, trace_join, trace_paused, paused_longer, paused_join, paused_rest, paused_rest_cut, cut_join, cut_longer}
 use Rattle.tl_journal_text.specs.Stand.{stand, tree_of, Stays, IsResumed}
-use Rattle.tl_object.specs.declared.object.Object.{Object}
+use Rattle.tl_entry.specs.declared.object.Object.{Object}
 use Rattle.tl_object.specs.declared.fault.LineKind.{LineKind}
 use Rattle.tl_db.specs.Reading.{db_of, IsRead, HasTooMany}
 use Rattle.tl_db.specs.Text.{db_text}

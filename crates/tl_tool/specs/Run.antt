@@ -5,7 +5,7 @@ use Rattle.tl_model.specs.Volume.{Volume}
 use Rattle.tl_model.specs.Seen.{Seen}
 use Rattle.tl_model.specs.Trace.{Event, Text, Step, Trace, Cut, Paused}
 use Rattle.tl_journal_text.specs.Stand.{stand, journal_fault}
-use Rattle.tl_object.specs.declared.object.Object.{Object}
+use Rattle.tl_entry.specs.declared.object.Object.{Object}
 use Rattle.tl_object.specs.declared.fault.LineKind.{LineKind}
 use Rattle.tl_db.specs.Reading.{db_of}
 use Rattle.tl_db.specs.Text.{db_text}

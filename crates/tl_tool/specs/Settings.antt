@@ -1,6 +1,6 @@
 -- The texts of the options of a tree.
 use Rattle.std.specs.Prelude.{ℕ, List, [], ◌∷◌, ◌++◌, codes}
-use Rattle.tl_object.specs.declared.object.Object.{Object}
+use Rattle.tl_entry.specs.declared.object.Object.{Object}
 use Rattle.tl_db.specs.declared.options.TreeOption.{TreeOption}
 use Rattle.tl_db.specs.declared.options.TreeOption.TheVariants.{Autobackup, Platforms}
 use Rattle.tl_db.specs.Options.{option_name, option_value}

@@ -5,7 +5,7 @@ ghost use Rattle.tl_model.specs.Causes.{Rose};
 ghost use Rattle.tl_model.specs.Seen.{Told, Quiet};
 ghost use Rattle.tl_model.specs.Volume.{Volume};
 ghost use Rattle.tl_journal_text.specs.Stand.{stand, tree_of};
-ghost use Rattle.tl_object.specs.declared.object.Object.{Object};
+ghost use Rattle.tl_entry.specs.declared.object.Object.{Object};
 ghost use Rattle.tl_db.specs.Reading.{IsRead};
 ghost use Rattle.tl_tree.specs.Planted.{database_text};
 ghost use Rattle.tl_tool.specs.Acted.{IsActed, left_by};

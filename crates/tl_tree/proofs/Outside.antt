@@ -7,7 +7,7 @@ use Rattle.tl_path.specs.Components.{is_below}
 use Rattle.tl_path.specs.Reserved.{is_reserved, reserved_paths}
 use Rattle.tl_path.proofs.Front.{is_below-begins}
 use Rattle.tl_journal_text.specs.Records.{is_ours, is_outside}
-use Rattle.tl_object.specs.declared.object.Object.{Object}
+use Rattle.tl_entry.specs.declared.object.Object.{Object}
 use Rattle.tl_tree.specs.Changes.{own_of, listed}
 use Rattle.tl_tree.specs.Staged.{AreOutside}
 use Rattle.tl_tree.proofs.Order.{folder, ours_front}

@@ -7,10 +7,10 @@ use Rattle.std.proofs.lemmas.List.{append-nil, take_more}
 use Rattle.std.proofs.lemmas.List.Concat.{flat_map-append}
 use Rattle.tl_model.specs.Volume.{Name, same_name, same_name-is}
 use Rattle.tl_path.specs.Reserved.{is_reserved}
-use Rattle.tl_object.specs.Rising.{has_key}
-use Rattle.tl_object.specs.Parts.{FileEntry}
-use Rattle.tl_object.specs.declared.object.Object.{Object}
-use Rattle.tl_object.specs.declared.object.BinFiles.{BinFiles}
+use Rattle.tl_entry.specs.Rising.{has_key}
+use Rattle.tl_entry.specs.Parts.{FileEntry}
+use Rattle.tl_entry.specs.declared.object.Object.{Object}
+use Rattle.tl_entry.specs.declared.object.BinFiles.{BinFiles}
 use Rattle.tl_tree.specs.Changes.{path_of, bin_paths, listed, own}
 use Rattle.tl_tree.specs.Owners.{owner_of, name_of}
 

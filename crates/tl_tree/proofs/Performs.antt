@@ -8,7 +8,7 @@ use Rattle.tl_model.specs.Seen.{Seen}
 use Rattle.tl_model.specs.Trace.{Step, Trace, Cut}
 use Rattle.tl_journal_text.specs.Records.{after}
 use Rattle.tl_journal_text.specs.Stand.{stand, tree_of, Stays}
-use Rattle.tl_object.specs.declared.object.Object.{Object}
+use Rattle.tl_entry.specs.declared.object.Object.{Object}
 use Rattle.tl_tree.specs.declared.change.Part.{Part}
 use Rattle.tl_tree.specs.declared.error.StepError.{StepError}
 use Rattle.tl_tree.specs.declared.error.StepError.TheVariants.{HostFault, NoMemory, TooLarge}

@@ -7,7 +7,7 @@ use Rattle.std.proofs.lemmas.List.Elements.{All-from_recursion, recursion_from_A
 use Rattle.std.proofs.lemmas.List.Sorted.{All-permutation}
 use Rattle.tl_model.specs.Volume.{Name, Volume}
 use Rattle.tl_journal_text.specs.Records.{is_outside, after}
-use Rattle.tl_object.specs.declared.object.Object.{Object}
+use Rattle.tl_entry.specs.declared.object.Object.{Object}
 use Rattle.tl_tree.specs.declared.change.Part.{Part}
 use Rattle.tl_tree.specs.Changes.{removed_all, written_all, names_of, leaving, coming, written, made, changed, entries_after, has_entries, IsChange}
 use Rattle.tl_tree.specs.Staged.{AreOutside, FilesOutside, LeavesOut, records_for}

@@ -7,10 +7,10 @@ use Rattle.tl_model.specs.Acks.{IsLabel}
 use Rattle.tl_path.specs.Reserved.{is_reserved}
 use Rattle.tl_file.specs.declared.file.FileBytes.{FileBytes}
 use Rattle.tl_journal_text.specs.Records.{is_outside}
-use Rattle.tl_object.specs.Parts.{FileEntry}
-use Rattle.tl_object.specs.Rising.{insert_by}
-use Rattle.tl_object.specs.declared.object.Object.{Object}
-use Rattle.tl_object.specs.declared.object.BinFiles.{BinFiles}
+use Rattle.tl_entry.specs.Parts.{FileEntry}
+use Rattle.tl_entry.specs.Rising.{insert_by}
+use Rattle.tl_entry.specs.declared.object.Object.{Object}
+use Rattle.tl_entry.specs.declared.object.BinFiles.{BinFiles}
 use Rattle.tl_db.specs.Entries.{entry_of, others}
 use Rattle.tl_db.specs.Text.{db_text}
 use Rattle.tl_config.specs.Databases.{updmap_of, fmtutil_of, langdat_of, langdef_of, langlua_of}

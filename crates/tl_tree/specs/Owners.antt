@@ -1,8 +1,8 @@
 -- Who owns a path.
 use Rattle.std.specs.Prelude.{List, Option, find, option_map}
 use Rattle.tl_model.specs.Volume.{Name}
-use Rattle.tl_object.specs.Rising.{has_key}
-use Rattle.tl_object.specs.declared.object.Object.{Object}
+use Rattle.tl_entry.specs.Rising.{has_key}
+use Rattle.tl_entry.specs.declared.object.Object.{Object}
 use Rattle.tl_tree.specs.Changes.{own}
 
 -- the name of an entry

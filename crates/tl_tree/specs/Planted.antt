@@ -3,7 +3,7 @@ use Rattle.std.specs.Prelude.{ℕ, List, [], unwrap_or, codes, refl}
 use Rattle.std.specs.Coded.{Coded, code_by, coded×, coded_list}
 use Rattle.tl_model.specs.Volume.{Name, Volume, at}
 use Rattle.tl_model.specs.Seen.{Seen, seen_code}
-use Rattle.tl_object.specs.declared.object.Object.{Object}
+use Rattle.tl_entry.specs.declared.object.Object.{Object}
 
 -- the host of a tree, and the entries of its database
 pub record Planted : Type 0 where

@@ -2,7 +2,7 @@
 ghost use Rattle.std.specs.Prelude.{◌≡◌, List, ℕ, true, false, option_copied, map};
 ghost use Rattle.std.specs.List.{flat_map};
 ghost use Rattle.tl_path.specs.Reserved.{is_reserved};
-ghost use Rattle.tl_object.specs.Rising.{is_rising, has_key};
+ghost use Rattle.tl_entry.specs.Rising.{is_rising, has_key};
 ghost use Rattle.tl_tree.specs.Changes.{own, path_of, bin_paths};
 ghost use Rattle.tl_tree.specs.Owners.{owner_of};
 

@@ -34,7 +34,7 @@ pub struct Tree<H: Host> {
 
 impl<H: Host> Model for Tree<H> {
     ghost use Rattle.tl_tree.specs.Planted.{Planted, planted_code};
-    ghost use Rattle.tl_object.specs.contracts.object.Object as object;
+    ghost use Rattle.tl_entry.specs.contracts.object.Object as object;
 
     ghost Value = { Planted };
 

@@ -3,9 +3,9 @@ use Rattle.std.specs.Ordering.{is_lt, ordering_reverse, nat_cmp}
 use Rattle.std.specs.Cmp.Lexicographic.{slice_cmp}
 use Rattle.std.proofs.lemmas.List.{get_or_read}
 use Rattle.std.proofs.lemmas.Cmp.{nat_list_cmp_total}
-use Rattle.tl_object.specs.declared.object.Object.{Object}
-use Rattle.tl_object.specs.Rising.{comes_before}
-use Rattle.tl_object.proofs.RisingLemmas.{below_all, above_all, absent_at}
+use Rattle.tl_entry.specs.declared.object.Object.{Object}
+use Rattle.tl_entry.specs.Rising.{comes_before}
+use Rattle.tl_entry.proofs.RisingLemmas.{below_all, above_all, absent_at}
 use Rattle.tl_db.proofs.DbLemmas.{name}
 use Rattle.tl_db.proofs.db.place_of.Goals as goal
 

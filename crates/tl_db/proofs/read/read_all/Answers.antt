@@ -1,6 +1,6 @@
 use Rattle.std.proofs.Common.{◌≡◌, arith, sym, ap, ◌∙◌, List, ℕ, true, false}
 use Rattle.tl_object.specs.Content.{content}
-use Rattle.tl_object.specs.Rising.{has_key}
+use Rattle.tl_entry.specs.Rising.{has_key}
 use Rattle.tl_db.specs.Reading.{db_of}
 use Rattle.tl_db.proofs.DbLemmas.{name, absent, db-more, db-name_fails, db-repeated, db-entry_fails}
 use Rattle.tl_db.proofs.read.read_all.Goals as goal

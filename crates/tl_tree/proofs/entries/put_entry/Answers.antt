@@ -1,5 +1,5 @@
 use Rattle.std.proofs.Common.{◌≡◌, subst, OnOk}
-use Rattle.tl_object.specs.declared.object.Object.{Object}
+use Rattle.tl_entry.specs.declared.object.Object.{Object}
 use Rattle.tl_tree.specs.Changes.{with_entry}
 use Rattle.tl_tree.proofs.entries.put_entry.Goals as goal
 

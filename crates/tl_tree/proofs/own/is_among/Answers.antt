@@ -3,8 +3,8 @@ use Rattle.std.specs.Ordering.{is_lt, is_eq, ordering_reverse}
 use Rattle.std.proofs.lemmas.List.{get_or_read}
 use Rattle.std.proofs.lemmas.Cmp.{nat_list_cmp_total}
 use Rattle.tl_model.specs.Volume.{Name, same_name}
-use Rattle.tl_object.specs.Rising.{comes_before}
-use Rattle.tl_object.proofs.RisingLemmas.{below_all, above_all, absent_at, present_at}
+use Rattle.tl_entry.specs.Rising.{comes_before}
+use Rattle.tl_entry.proofs.RisingLemmas.{below_all, above_all, absent_at, present_at}
 use Rattle.tl_tree.proofs.own.is_among.Goals as goal
 
 pub loop-low-preserved-in-Less : goal.loop-low-preserved-in-Less

@@ -1,6 +1,6 @@
 use Rattle.std.proofs.Common.{◌≡◌, ℕ, ◌<◌, ◌≤◌, ◌-◌, true, get_or, length}
 use Rattle.tl_model.specs.Volume.{Name}
-use Rattle.tl_object.specs.Rising.{comes_before}
+use Rattle.tl_entry.specs.Rising.{comes_before}
 use Rattle.tl_tree.proofs.own.is_among.Given as goal
 
 abbrev pub invariant-loop-low : goal.invariant-loop-low

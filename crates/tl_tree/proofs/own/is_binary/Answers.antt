@@ -1,6 +1,6 @@
 use Rattle.std.proofs.Common.{◌||◌, arith, sym, ap, ◌∙◌, List}
 use Rattle.tl_model.specs.Volume.{Name}
-use Rattle.tl_object.specs.Rising.{has_key}
+use Rattle.tl_entry.specs.Rising.{has_key}
 use Rattle.tl_tree.proofs.Owning.{key-bins_more, key-bins_at}
 use Rattle.tl_tree.proofs.own.is_binary.Goals as goal
 

@@ -1,6 +1,6 @@
 use Rattle.std.proofs.Common.{◌≡◌, false, take}
 use Rattle.std.specs.List.{flat_map}
-use Rattle.tl_object.specs.Rising.{has_key}
+use Rattle.tl_entry.specs.Rising.{has_key}
 use Rattle.tl_tree.specs.Changes.{bin_paths}
 use Rattle.tl_tree.proofs.own.is_binary.Given as goal
 

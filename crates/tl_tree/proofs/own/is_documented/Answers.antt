@@ -1,8 +1,8 @@
 use Rattle.std.proofs.Common.{sym, ap, ◌∙◌}
 use Rattle.tl_model.specs.Volume.{Name}
-use Rattle.tl_object.specs.Parts.{FileEntry}
-use Rattle.tl_object.specs.Rising.{has_key}
-use Rattle.tl_object.proofs.RisingLemmas.{absent_at}
+use Rattle.tl_entry.specs.Parts.{FileEntry}
+use Rattle.tl_entry.specs.Rising.{has_key}
+use Rattle.tl_entry.proofs.RisingLemmas.{absent_at}
 use Rattle.tl_tree.proofs.Owning.{key-files}
 use Rattle.tl_tree.proofs.own.is_documented.Goals as goal
 

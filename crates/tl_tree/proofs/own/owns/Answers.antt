@@ -2,9 +2,9 @@ use Rattle.std.proofs.Common.{sym, ap, ◌∙◌, List}
 use Rattle.std.specs.Prelude.{map}
 use Rattle.std.specs.List.{flat_map}
 use Rattle.tl_model.specs.Volume.{Name}
-use Rattle.tl_object.specs.Rising.{has_key}
-use Rattle.tl_object.specs.Parts.{FileEntry}
-use Rattle.tl_object.specs.declared.object.BinFiles.{BinFiles}
+use Rattle.tl_entry.specs.Rising.{has_key}
+use Rattle.tl_entry.specs.Parts.{FileEntry}
+use Rattle.tl_entry.specs.declared.object.BinFiles.{BinFiles}
 use Rattle.tl_tree.specs.Changes.{path_of, bin_paths}
 use Rattle.tl_tree.proofs.Owning.{own_run, own_doc, own_src, own_bin}
 use Rattle.tl_tree.proofs.own.owns.Goals as goal

@@ -1,4 +1,4 @@
-use Rattle.tl_object.proofs.RisingLemmas.{placed}
+use Rattle.tl_entry.proofs.RisingLemmas.{placed}
 use Rattle.tl_db.proofs.db.Db.add.Goals as goal
 
 pub invariant_of-self-2 : goal.invariant_of-self-2

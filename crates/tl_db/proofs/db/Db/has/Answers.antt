@@ -1,8 +1,8 @@
 use Rattle.std.proofs.Common.{sym, subst, ◌∙◌}
 use Rattle.std.specs.Prelude.{List}
-use Rattle.tl_object.specs.declared.object.Object.{Object}
-use Rattle.tl_object.specs.Rising.{IsPlace}
-use Rattle.tl_object.proofs.RisingLemmas.{absent_at}
+use Rattle.tl_entry.specs.declared.object.Object.{Object}
+use Rattle.tl_entry.specs.Rising.{IsPlace}
+use Rattle.tl_entry.proofs.RisingLemmas.{absent_at}
 use Rattle.tl_db.proofs.db.Db.has.Goals as goal
 
 pub returns-in-Some : goal.returns-in-Some

@@ -1,5 +1,5 @@
 use Rattle.std.proofs.Common.{◌≡◌, ◌++◌, List, ℕ, true, ap, subst, sym, ◌∙◌}
-use Rattle.tl_object.specs.declared.object.Object.{Object}
+use Rattle.tl_entry.specs.declared.object.Object.{Object}
 use Rattle.tl_text.specs.Texts.{is_text}
 use Rattle.tl_db.specs.Options.{option_prefix}
 use Rattle.tl_db.proofs.OptionLemmas.{line_is_text}

@@ -1,5 +1,5 @@
 use Rattle.std.proofs.Common.{ap, sym, ◌∙◌, Result, Ok, List}
-use Rattle.tl_object.specs.declared.object.Object.{Object}
+use Rattle.tl_entry.specs.declared.object.Object.{Object}
 use Rattle.tl_db.specs.declared.options.OptionError.{OptionError}
 use Rattle.tl_db.specs.Options.{with_made}
 use Rattle.tl_db.proofs.SettingLemmas.{set_kept, set_others}

@@ -1,0 +1,13 @@
+use Rattle.std.proofs.Common.{sym, subst, ◌∙◌}
+use Rattle.std.specs.Prelude.{List}
+use Rattle.tl_entry.specs.declared.object.BinFiles.{BinFiles}
+use Rattle.tl_entry.specs.Rising.{IsPlace}
+use Rattle.tl_entry.proofs.RisingLemmas.{absent_at}
+use Rattle.tl_entry.proofs.lists.BinList.has.Goals as goal
+
+pub returns-in-Some : goal.returns-in-Some
+returns-in-Some c =
+    let key = λ (b : BinFiles). b.platform in
+    let place : IsPlace key c.args.platform.now c.args.self.now c.in-Some.field-0 =
+    subst (λ (bins : List BinFiles). IsPlace key c.args.platform.now bins c.in-Some.field-0) (c.as_slice.ensures.value ∙ c.self.view_is) c.in-Some.ensures in
+    sym (absent_at key c.args.platform.now c.args.self.now c.in-Some.field-0 place)

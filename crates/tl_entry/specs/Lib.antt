@@ -1,0 +1,6 @@
+pub mod Forms
+pub mod Parts
+pub mod Rising
+pub mod Sections
+pub mod Copies
+pub mod FilePaths

@@ -1,0 +1,353 @@
+//! The lists that an entry is made of.
+ghost use Rattle.std.specs.Prelude.{◌≡◌, ◌++◌, ◌∷◌, [], true, false, List, IfOk, OnOk, MatchBool, map};
+ghost use Rattle.tl_entry.specs.Forms.{is_platform};
+ghost use Rattle.tl_entry.specs.Rising.{is_rising, has_key, insert_by};
+
+use crate::object::{BinFiles, DocFile, Fact, Object};
+use crate::rising::{Keyed, place_for};
+use std::alloc::{AllocError, Global};
+use std::marker::Model;
+use tl_path::Path;
+use tl_text::Text;
+
+/// A platform: 1 to 32 lower case letters, digits, `_` and `-`, the first a letter or digit.
+#[derive(Drop)]
+pub struct PlatformName {
+    bytes: Vec<u8>,
+}
+
+impl Model for PlatformName {
+    ghost use Rattle.std.specs.Prelude.{◌≡◌, ℕ, List, true};
+    ghost use Rattle.tl_entry.specs.Forms.{is_platform};
+
+    ghost Value = { List ℕ };
+
+    ghost view = { λ a. a.bytes.items };
+
+    ghost invariant = { λ a. is_platform a.bytes.items ≡ true };
+}
+
+impl PlatformName {
+    /// The platform of these bytes.
+    pub fn new(bytes: Vec<u8>) -> Self
+        requires { is_platform bytes.items ≡ true }
+        ensures { result ≡ bytes.items }
+    {
+        PlatformName { bytes }
+    }
+
+    /// The platform's bytes. Takes no memory.
+    pub fn bytes(&self) -> &[u8]
+        ensures bytes { result.now ≡ self.now }
+        ensures platform { is_platform self.now ≡ true }
+    {
+        self.bytes.as_slice()
+    }
+}
+
+/// Texts in the order in which they were read.
+#[derive(Drop)]
+pub struct Texts {
+    items: Vec<Text>,
+}
+
+impl Model for Texts {
+    ghost use Rattle.std.specs.Prelude.{◌≡◌, ℕ, List, true};
+
+    ghost Value = { List (List ℕ) };
+
+    ghost view = { λ a. a.items.items };
+}
+
+impl Texts {
+    /// The list of these elements. Takes no memory.
+    pub fn new(items: Vec<Text>) -> Self
+        ensures { result ≡ items.items }
+    {
+        Texts { items }
+    }
+
+    /// The elements. Takes no memory.
+    pub fn as_slice(&self) -> &[Text]
+        ensures items { result.now ≡ self.now }
+    {
+        self.items.as_slice()
+    }
+
+    /// The elements, given back. Takes no memory.
+    pub fn into_vec(self) -> Vec<Text>
+        ensures { result.items ≡ self }
+    {
+        self.items
+    }
+
+    /// Adds a text at the end.
+    pub fn push(&mut self, item: Text) -> Result<(), AllocError>
+        ensures { OnOk result (self.new ≡ self.old ++ item ∷ []) }
+    {
+        self.items.push(item)?;
+        Ok(())
+    }
+}
+
+/// What the catalogue says of a package, in the order in which it was read.
+#[derive(Drop)]
+pub struct Facts {
+    items: Vec<Fact>,
+}
+
+impl Model for Facts {
+    ghost use Rattle.std.specs.Prelude.{◌≡◌, List, true};
+    ghost use Rattle.tl_entry.specs.Parts.{FactEntry};
+
+    ghost Value = { List FactEntry };
+
+    ghost view = { λ a. a.items.items };
+}
+
+impl Facts {
+    /// The list of these elements. Takes no memory.
+    pub fn new(items: Vec<Fact>) -> Self
+        ensures { result ≡ items.items }
+    {
+        Facts { items }
+    }
+
+    /// The elements. Takes no memory.
+    pub fn as_slice(&self) -> &[Fact]
+        ensures items { result.now ≡ self.now }
+    {
+        self.items.as_slice()
+    }
+
+    /// The elements, given back. Takes no memory.
+    pub fn into_vec(self) -> Vec<Fact>
+        ensures { result.items ≡ self }
+    {
+        self.items
+    }
+
+    /// Adds a fact at the end.
+    pub fn push(&mut self, item: Fact) -> Result<(), AllocError>
+        ensures { OnOk result (self.new ≡ self.old ++ item ∷ []) }
+    {
+        self.items.push(item)?;
+        Ok(())
+    }
+}
+
+/// Paths in rising order of their bytes, each once.
+#[derive(Drop)]
+pub struct Paths {
+    items: Vec<Path>,
+}
+
+impl Model for Paths {
+    ghost use Rattle.std.specs.Prelude.{◌≡◌, ℕ, List, true};
+    ghost use Rattle.tl_entry.specs.Rising.{is_rising};
+
+    ghost Value = { List (List ℕ) };
+
+    ghost view = { λ a. a.items.items };
+
+    ghost invariant = { λ a. is_rising (λ path. path) a.items.items ≡ true };
+}
+
+impl Paths {
+    /// The list of these elements, which rise strictly. Takes no memory.
+    pub fn new(items: Vec<Path>) -> Self
+        requires { is_rising (λ path. path) items.items ≡ true }
+        ensures { result ≡ items.items }
+    {
+        Paths { items }
+    }
+
+    /// The elements. Takes no memory.
+    pub fn as_slice(&self) -> &[Path]
+        ensures items { result.now ≡ self.now }
+        ensures rising { is_rising (λ path. path) self.now ≡ true }
+    {
+        self.items.as_slice()
+    }
+
+    /// The elements, given back. Takes no memory.
+    pub fn into_vec(self) -> Vec<Path>
+        ensures { result.items ≡ self }
+    {
+        self.items
+    }
+}
+
+/// Documentation files in rising order of their paths, each path once.
+#[derive(Drop)]
+pub struct DocFileList {
+    items: Vec<DocFile>,
+}
+
+impl Model for DocFileList {
+    ghost use Rattle.std.specs.Prelude.{◌≡◌, List, true};
+    ghost use Rattle.tl_entry.specs.Parts.{FileEntry};
+    ghost use Rattle.tl_entry.specs.Rising.{is_rising};
+
+    ghost Value = { List FileEntry };
+
+    ghost view = { λ a. a.items.items };
+
+    ghost invariant = { λ a. is_rising (λ file. file.path) a.items.items ≡ true };
+}
+
+impl DocFileList {
+    /// The list of these elements, which rise strictly. Takes no memory.
+    pub fn new(items: Vec<DocFile>) -> Self
+        requires { is_rising (λ file. file.path) items.items ≡ true }
+        ensures { result ≡ items.items }
+    {
+        DocFileList { items }
+    }
+
+    /// The elements. Takes no memory.
+    pub fn as_slice(&self) -> &[DocFile]
+        ensures items { result.now ≡ self.now }
+        ensures rising { is_rising (λ file. file.path) self.now ≡ true }
+    {
+        self.items.as_slice()
+    }
+
+    /// The elements, given back. Takes no memory.
+    pub fn into_vec(self) -> Vec<DocFile>
+        ensures { result.items ≡ self }
+    {
+        self.items
+    }
+}
+
+/// Sections of binaries in rising order of their platforms, each platform once.
+#[derive(Drop)]
+pub struct BinList {
+    items: Vec<BinFiles>,
+}
+
+impl Model for BinList {
+    ghost use Rattle.std.specs.Prelude.{◌≡◌, List, true};
+    ghost use Rattle.tl_entry.specs.declared.object.BinFiles.{BinFiles};
+    ghost use Rattle.tl_entry.specs.Rising.{is_rising};
+
+    ghost Value = { List BinFiles };
+
+    ghost view = { λ a. a.items.items };
+
+    ghost invariant = { λ a. is_rising (λ bin. bin.platform) a.items.items ≡ true };
+}
+
+impl BinList {
+    /// The list of these elements, which rise strictly. Takes no memory.
+    pub fn new(items: Vec<BinFiles>) -> Self
+        requires { is_rising (λ bin. bin.platform) items.items ≡ true }
+        ensures { result ≡ items.items }
+    {
+        BinList { items }
+    }
+
+    /// The elements. Takes no memory.
+    pub fn as_slice(&self) -> &[BinFiles]
+        ensures items { result.now ≡ self.now }
+        ensures rising { is_rising (λ bin. bin.platform) self.now ≡ true }
+    {
+        self.items.as_slice()
+    }
+
+    /// The elements, given back. Takes no memory.
+    pub fn into_vec(self) -> Vec<BinFiles>
+        ensures { result.items ≡ self }
+    {
+        self.items
+    }
+}
+
+impl Keyed for DocFile {
+    ghost key = { λ file. file.path };
+
+    fn key(&self) -> &[u8] {
+        self.path.bytes()
+    }
+}
+
+impl Keyed for Object {
+    ghost key = { λ object. object.name };
+
+    fn key(&self) -> &[u8] {
+        self.name.bytes()
+    }
+}
+
+impl Keyed for BinFiles {
+    ghost key = { λ bin. bin.platform };
+
+    fn key(&self) -> &[u8] {
+        self.platform.bytes()
+    }
+}
+
+impl DocFileList {
+    /// Puts a file in its place, unless its path is there already: then the answer is `false`.
+    pub fn add(&mut self, file: DocFile) -> Result<bool, AllocError>
+        ensures { IfOk result (λ added. MatchBool added
+            ((has_key (λ f. f.path) file.path self.old ≡ false) × (self.new ≡ insert_by (λ f. f.path) file self.old))
+            (has_key (λ f. f.path) file.path self.old ≡ true)) }
+    {
+        match place_for(self.items.as_slice(), file.key()) {
+            Some(at) => {
+                self.items.insert(at, file)?;
+                Ok(true)
+            }
+            None => Ok(false),
+        }
+    }
+
+    /// The paths alone.
+    pub fn into_paths(self, alloc: Global) -> Result<Paths, AllocError>
+        ensures { IfOk result (λ paths. paths ≡ map (λ f. f.path) self) }
+    {
+        let paths = paths_of(alloc, self.items)?;
+        Ok(Paths { items: paths })
+    }
+}
+
+fn paths_of(alloc: Global, files: Vec<DocFile>) -> Result<Vec<Path>, AllocError>
+    ensures { IfOk result (λ paths. paths.items ≡ map (λ f. f.path) files.items) }
+{
+    let mut paths = Vec::with_capacity(alloc, files.len())?;
+    for file in files {
+        let DocFile {
+            path,
+            details: _,
+            language: _,
+        } = file;
+        paths.push(path)?;
+    }
+    Ok(paths)
+}
+
+impl BinList {
+    /// Whether a section is for this platform. Takes no memory.
+    pub fn has(&self, platform: &[u8]) -> bool
+        ensures { result ≡ has_key (λ b. b.platform) platform.now self.now }
+    {
+        match place_for(self.items.as_slice(), platform) {
+            Some(_) => false,
+            None => true,
+        }
+    }
+
+    /// Puts a section in its place; none is for its platform yet.
+    pub fn put(&mut self, bin: BinFiles) -> Result<(), AllocError>
+        requires { has_key (λ b. b.platform) bin.platform self.old ≡ false }
+        ensures { OnOk result (self.new ≡ insert_by (λ b. b.platform) bin self.old) }
+    {
+        let Some(at) = place_for(self.items.as_slice(), bin.key()) else {
+            unreachable!()
+        };
+        self.items.insert(at, bin)?;
+        Ok(())
+    }
+}

@@ -1,6 +1,0 @@
-use Rattle.std.proofs.Common.{◌≡◌, ◌++◌, take}
-use Rattle.tl_object.specs.Groups.{paths_of}
-use Rattle.tl_object.proofs.file_paths.append_doc_paths.Given as goal
-
-abbrev pub invariant-loop-file : goal.invariant-loop-file
-invariant-loop-file l = l.out.items ≡ l.fn.out.items ++ paths_of (take l.file-index l.files)
