@@ -14,8 +14,9 @@ use Rattle.tl_model.specs.Lines.{IsLine}
 use Rattle.tl_model.specs.Decimal.{is_decimal, decimal_value, decimal_text, decimal_parts, IsDecimal-decimal_text, length-decimal_text}
 use Rattle.tl_model.specs.Words.{fields}
 use Rattle.tl_text.specs.Texts.{IsText, IsText-from}
-use Rattle.tl_path.specs.Bytes.{is_of_platform, is_lower_or_digit}
+use Rattle.tl_path.specs.Bytes.{is_of_platform}
 use Rattle.tl_path.specs.Names.{is_platform}
+use Rattle.tl_path.proofs.Words.{platform_bytes, platform_short}
 use Rattle.tl_entry.specs.Rising.{comes_before, insert_by, has_key}
 use Rattle.tl_entry.specs.FilePaths.{rising_of}
 use Rattle.tl_entry.specs.declared.object.Object.{Object}
@@ -78,18 +79,11 @@ pub text_from_plain : (text : List ℕ) → list_all is_plain text ≡ true → 
 text_from_plain text all short =
     IsText-from text (IsUtf8-from_ascii text (ascii text all)) (all_weaker is_plain (λ b. not (b == 10)) (λ b is. ap not (plain_apart b is)) text all) short
 
-pub platform_bytes : (word : List ℕ) → is_platform word ≡ true → list_all is_of_platform word ≡ true
-platform_bytes word is =
-    let some = nat_le 1 (length word) in let short = nat_le (length word) 32 in let first = is_lower_or_digit (get_or word 0 0) in let all = list_all is_of_platform word in
-    right first all (right short (first && all) (right some (short && (first && all)) is))
-
 platform_parts : (word : List ℕ) → is_platform word ≡ true → IsPlainText 32 word
-platform_parts word is =
-    let some = nat_le 1 (length word) in let short = nat_le (length word) 32 in let first = is_lower_or_digit (get_or word 0 0) in let all = list_all is_of_platform word in
-    record {
-      plain = all_weaker is_of_platform is_plain plain_of_platform word (platform_bytes word is);
-      short = leb-true (length word) 32 (left short (first && all) (right some (short && (first && all)) is));
-    }
+platform_parts word is = record {
+  plain = all_weaker is_of_platform is_plain plain_of_platform word (platform_bytes word is);
+  short = platform_short word is;
+}
 
 joined_parts : (words : List (List ℕ)) → list_all is_platform words ≡ true → IsPlainText (33 * length words) (join_with_byte 32 words)
 joined_parts [] all = record { plain = refl; short = omega arith }

@@ -13,13 +13,14 @@ use Rattle.tl_model.specs.Decimal.{is_decimal, decimal_value, decimal_text, IsDe
 use Rattle.tl_model.specs.Words.{is_blank, is_full, fields}
 use Rattle.tl_path.specs.Bytes.{is_of_platform}
 use Rattle.tl_path.specs.Names.{is_platform}
+use Rattle.tl_path.proofs.Words.{platform_bytes}
 use Rattle.tl_entry.specs.Rising.{is_rising, is_rising_after}
 use Rattle.tl_entry.specs.FilePaths.{rising_of}
 use Rattle.tl_entry.proofs.SetLemmas.{rising_of_is, rising-rising_of, none_again}
 use Rattle.tl_db.specs.declared.options.TreeOption.{TreeOption}
 use Rattle.tl_db.specs.declared.options.TreeOption.TheVariants.{Autobackup, Platforms}
 use Rattle.tl_db.specs.Options.{are_distinct, are_platforms, spelled_number, spelled_platforms, spelled}
-use Rattle.tl_db.proofs.OptionLemmas.{from_if, left, right, both, all-rising_of, length-rising_of, platform_bytes}
+use Rattle.tl_db.proofs.OptionLemmas.{from_if, left, right, both, all-rising_of, length-rising_of}
 
 blank_apart : (b : ℕ) → is_of_platform b ≡ true → is_blank b ≡ false
 blank_apart b is = grind (arith, nat_tests, is)

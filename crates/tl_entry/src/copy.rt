@@ -2,7 +2,7 @@
 ghost use Rattle.std.specs.Prelude.{◌≡◌, IfOk};
 ghost use Rattle.tl_entry.specs.Copies.{less_containers};
 
-use crate::lists::{BinList, DocFileList, Facts, Paths, PlatformName, Texts};
+use crate::lists::{BinList, DocFileList, Facts, Paths, Texts};
 use crate::object::{BinFiles, Container, DocFile, DocFiles, Fact, Files, Object};
 use std::alloc::{AllocError, Global};
 use tl_path::Path;
@@ -60,7 +60,7 @@ impl Copied for Fact {
 impl Copied for BinFiles {
     fn copied(&self, alloc: Global) -> Result<BinFiles, AllocError> {
         Ok(BinFiles {
-            platform: self.platform.copy(alloc)?,
+            platform: self.platform.clone()?,
             blocks: self.blocks,
             paths: self.paths.copy(alloc)?,
         })
@@ -79,15 +79,6 @@ fn copy_of_text(alloc: Global, text: &Option<Text>) -> Result<Option<Text>, Allo
     match text {
         Some(text) => Ok(Some(text.try_clone(alloc)?)),
         None => Ok(None),
-    }
-}
-
-impl PlatformName {
-    /// An equal platform.
-    pub fn copy(&self, alloc: Global) -> Result<PlatformName, AllocError>
-        ensures { IfOk result (λ copy. copy ≡ self.now) }
-    {
-        Ok(PlatformName::new(Vec::from_slice(alloc, self.bytes())?))
     }
 }
 

@@ -9,7 +9,7 @@ mod object;
 mod rising;
 
 pub use copy::{Copied, copies};
-pub use form::{is_fact_key, is_platform};
-pub use lists::{BinList, DocFileList, Facts, Paths, PlatformName, Texts};
+pub use form::is_fact_key;
+pub use lists::{BinList, DocFileList, Facts, Paths, Texts};
 pub use object::{BinFiles, Container, DocFile, DocFiles, Fact, Files, Object};
 pub use rising::{Keyed, place_for};

@@ -1,6 +1,5 @@
 //! The lists that an entry is made of.
 ghost use Rattle.std.specs.Prelude.{◌≡◌, ◌++◌, ◌∷◌, [], true, false, List, IfOk, OnOk, MatchBool, map};
-ghost use Rattle.tl_entry.specs.Forms.{is_platform};
 ghost use Rattle.tl_entry.specs.Rising.{is_rising, has_key, insert_by};
 
 use crate::object::{BinFiles, DocFile, Fact, Object};
@@ -9,41 +8,6 @@ use std::alloc::{AllocError, Global};
 use std::marker::Model;
 use tl_path::Path;
 use tl_text::Text;
-
-/// A platform: 1 to 32 lower case letters, digits, `_` and `-`, the first a letter or digit.
-#[derive(Drop)]
-pub struct PlatformName {
-    bytes: Vec<u8>,
-}
-
-impl Model for PlatformName {
-    ghost use Rattle.std.specs.Prelude.{◌≡◌, ℕ, List, true};
-    ghost use Rattle.tl_entry.specs.Forms.{is_platform};
-
-    ghost Value = { List ℕ };
-
-    ghost view = { λ a. a.bytes.items };
-
-    ghost invariant = { λ a. is_platform a.bytes.items ≡ true };
-}
-
-impl PlatformName {
-    /// The platform of these bytes.
-    pub fn new(bytes: Vec<u8>) -> Self
-        requires { is_platform bytes.items ≡ true }
-        ensures { result ≡ bytes.items }
-    {
-        PlatformName { bytes }
-    }
-
-    /// The platform's bytes. Takes no memory.
-    pub fn bytes(&self) -> &[u8]
-        ensures bytes { result.now ≡ self.now }
-        ensures platform { is_platform self.now ≡ true }
-    {
-        self.bytes.as_slice()
-    }
-}
 
 /// Texts in the order in which they were read.
 #[derive(Drop)]

@@ -1,7 +1,7 @@
 //! An entry of the database.
-use crate::lists::{BinList, DocFileList, Facts, Paths, PlatformName, Texts};
+use crate::lists::{BinList, DocFileList, Facts, Paths, Texts};
 use std::marker::Model;
-use tl_path::{Category, Name, Path};
+use tl_path::{Category, Name, Path, Platform};
 use tl_text::Text;
 
 /// What is known of a package's container. Each is absent where nothing is known.
@@ -74,7 +74,7 @@ pub struct DocFiles {
 /// The binaries for a platform.
 #[derive(Drop)]
 pub struct BinFiles {
-    pub platform: PlatformName,
+    pub platform: Platform,
     /// Their size in blocks of 4,096 bytes, each file rounded up by itself.
     pub blocks: u64,
     pub paths: Paths,

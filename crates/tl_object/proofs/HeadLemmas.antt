@@ -10,13 +10,15 @@ use Rattle.tl_model.specs.Decimal.{decimal_text}
 use Rattle.tl_model.specs.Lines.{IsLine}
 use Rattle.hex.specs.Hex.{encode_lower}
 use Rattle.tl_text.specs.Texts.{is_text, IsText, IsUtf8-from_text, IsLine-from_text, length-text}
-use Rattle.tl_path.proofs.Words.{name_utf8}
+use Rattle.tl_path.proofs.Words.{name_utf8, platform_bytes, platform_short, word_all, word_short}
 use Rattle.tl_path.specs.Bytes.{is_letter_or_digit, is_of_name}
 use Rattle.tl_path.specs.Names.{is_name}
 use Rattle.tl_path.specs.declared.kinds.Category.{Category}
 use Rattle.tl_path.specs.declared.kinds.Category.TheVariants.{Package, TLCore, ConTeXt, Collection, Scheme}
 use Rattle.tl_object.specs.Cuts.{cut}
-use Rattle.tl_entry.specs.Forms.{is_platform_byte, is_platform, is_fact_byte}
+use Rattle.tl_path.specs.Bytes.{is_of_platform}
+use Rattle.tl_path.specs.Names.{is_platform}
+use Rattle.tl_entry.specs.Forms.{is_fact_byte}
 use Rattle.tl_entry.specs.Parts.{FactEntry}
 use Rattle.tl_object.specs.Keys.{key_of}
 use Rattle.tl_object.specs.Values.{◌>>=◌, formed, number_value, blocks_value, blocks_after, bin_value, bin_parts, arch_in_either, digest_value, stripped}
@@ -105,18 +107,12 @@ text_head word text head is text_is by_key = word_head word text head is (IsLine
 pub formed_by : (form : Bool) (value : List ℕ) (kind : LineKind) (make : List ℕ → Head) → form ≡ true → (formed form value kind >>= λ x. Ok (make x)) ≡ Ok (make value)
 formed_by form value kind make is = ap (λ t. formed t value kind >>= λ x. Ok (make x)) is
 
-name_parts : (name : List ℕ) → is_name name ≡ true → (leb (length name) 128 ≡ true) × (list_all is_of_name name ≡ true)
-name_parts name is =
-    let rest = both (leb 1 (length name)) (leb (length name) 128 && (is_letter_or_digit (slice_index name 0) && list_all is_of_name name)) is in
-    let most = both (leb (length name) 128) (is_letter_or_digit (slice_index name 0) && list_all is_of_name name) rest.1 in
-    (most.0, (both (is_letter_or_digit (slice_index name 0)) (list_all is_of_name name) most.1).1)
-
 name_short : (name : List ℕ) → is_name name ≡ true → length name ≤ 65536
 name_short name is =
-    let short = leb-true (length name) 128 (name_parts name is).0 in omega arith
+    let short = word_short is_letter_or_digit is_of_name 128 name is in omega arith
 
 name_line : (name : List ℕ) → is_name name ≡ true → IsLine name
-name_line name is = line_tested name (each name (name_parts name is).1)
+name_line name is = line_tested name (each name (word_all is_letter_or_digit is_of_name 128 name is))
   where
     byte : (b : ℕ) → is_of_name b ≡ true → not (b == 10) ≡ true
     byte b is = grind (arith, nat_tests)
@@ -228,15 +224,12 @@ files_head Src blocks small = files_by (files_key Src) Src blocks refl small ref
 abbrev pub arched : List ℕ → ℕ → List ℕ
 arched platform blocks = (codes "arch=" ++ platform) ++ 32 ∷ sized blocks
 
-platform_byte : (b : ℕ) → is_platform_byte b ≡ true → (b < 128) × (not (b == 32) ≡ true)
+platform_byte : (b : ℕ) → is_of_platform b ≡ true → (b < 128) × (not (b == 32) ≡ true)
 platform_byte b is = (grind (arith, nat_tests), grind (arith, nat_tests))
 
-platform_bytes : (platform : List ℕ) → is_platform platform ≡ true → list_all is_platform_byte platform ≡ true
-platform_bytes platform is = (both _ _ (both _ _ is).1).1
-
-no_space : (bytes : List ℕ) → list_all is_platform_byte bytes ≡ true → list_all (λ b. not (b == 32)) bytes ≡ true
+no_space : (bytes : List ℕ) → list_all is_of_platform bytes ≡ true → list_all (λ b. not (b == 32)) bytes ≡ true
 no_space [] is = refl
-no_space (b ∷ bytes) is = let parts = both (is_platform_byte b) (list_all is_platform_byte bytes) is in ap (λ t. t && list_all (λ c. not (c == 32)) bytes) (platform_byte b parts.0).1 ∙ no_space bytes parts.1
+no_space (b ∷ bytes) is = let parts = both (is_of_platform b) (list_all is_of_platform bytes) is in ap (λ t. t && list_all (λ c. not (c == 32)) bytes) (platform_byte b parts.0).1 ∙ no_space bytes parts.1
 
 abbrev pair_of : List ℕ → ℕ → Result (List ℕ × ℕ) LineKind
 pair_of platform blocks = Ok (platform, blocks)
@@ -250,12 +243,9 @@ arched_again platform blocks is small =
     ∙ ap (λ t. formed t platform kinds.Value >>= λ name. blocks_value (sized blocks) >>= λ n. pair_of name n) is
     ∙ ap (λ (r : Result ℕ LineKind). r >>= λ n. pair_of platform n) (blocks_again blocks small)
 
-platform_short : (platform : List ℕ) → is_platform platform ≡ true → length platform ≤ 32
-platform_short platform is = leb-true (length platform) 32 (both _ _ is).0
-
 pub bin_head : (platform : List ℕ) (blocks : ℕ) → is_platform platform ≡ true → blocks < 2 ^ 64 → IsHead (codes "binfiles" ++ 32 ∷ arched platform blocks) (heads.Binfiles platform blocks)
 bin_head platform blocks is small =
-    let utf8 = IsUtf8-append (codes "arch=") platform (ascii_tested (codes "arch=") refl) (IsUtf8-from_ascii platform (ascii_by is_platform_byte (λ b e. (platform_byte b e).0) platform (platform_bytes platform is))) in
+    let utf8 = IsUtf8-append (codes "arch=") platform (ascii_tested (codes "arch=") refl) (IsUtf8-from_ascii platform (ascii_by is_of_platform (λ b e. (platform_byte b e).0) platform (platform_bytes platform is))) in
     let line = line_append (codes "arch=") platform (line_tested (codes "arch=") refl) (line_of_platform platform is) in
     let short = short_sized blocks small in
     let named = platform_short platform is in

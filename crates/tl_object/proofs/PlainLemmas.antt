@@ -17,7 +17,9 @@ use Rattle.tl_path.specs.Bytes.{is_barred}
 use Rattle.tl_path.specs.Path.{IsPath, fault, or_else, earlier, size_fault, utf8_fault, byte_fault, component_fault, place_fault}
 use Rattle.tl_path.specs.declared.fault.PathFault.{PathFault}
 use Rattle.tl_path.specs.declared.fault.PathKind.TheVariants.{Byte}
-use Rattle.tl_entry.specs.Forms.{is_platform_byte, is_platform}
+use Rattle.tl_path.specs.Bytes.{is_of_platform}
+use Rattle.tl_path.specs.Names.{is_platform}
+use Rattle.tl_path.proofs.Words.{platform_bytes}
 use Rattle.tl_entry.specs.Parts.{FileEntry, FactEntry}
 use Rattle.tl_object.specs.Plain.{is_key}
 use Rattle.tl_object.specs.Writing.{key_line, path_line, mark_text, file_line, section_line, fact_line}
@@ -64,7 +66,7 @@ line_of_number n small =
 
 pub line_of_platform : (platform : List ℕ) → is_platform platform ≡ true → IsLine platform
 line_of_platform platform is =
-    line_by is_platform_byte (apart_from is_platform_byte refl) platform (both _ _ (both _ _ is).1).1
+    line_by is_of_platform (apart_from is_of_platform refl) platform (platform_bytes platform is)
 
 -- no digit of a table, nor what stands for a digit behind its end, is a line end
 digit_apart : (table : List ℕ) (i : ℕ) → list_all no_end table ≡ true → (get_or table i 0 == 10) ≡ false

@@ -4,7 +4,8 @@ use Rattle.hex.specs.Hex.{IsBytes}
 use Rattle.tl_text.specs.Texts.{IsText}
 use Rattle.tl_path.specs.Names.{is_name}
 use Rattle.tl_path.specs.Path.{IsPath}
-use Rattle.tl_entry.specs.Forms.{is_platform, is_fact_key, has_no_quote}
+use Rattle.tl_path.specs.Names.{is_platform}
+use Rattle.tl_entry.specs.Forms.{is_fact_key, has_no_quote}
 use Rattle.tl_entry.specs.Parts.{FileEntry, FactEntry}
 use Rattle.tl_entry.specs.Rising.{is_rising}
 use Rattle.tl_entry.specs.declared.object.Container.{Container}

@@ -10,7 +10,7 @@ use Rattle.tl_path.specs.declared.kinds.Category.TheVariants.{Package, TLCore, C
 use Rattle.tl_path.specs.Names.{is_name}
 use Rattle.tl_path.specs.Path.{path_fault}
 use Rattle.tl_object.specs.Cuts.{cut}
-use Rattle.tl_entry.specs.Forms.{is_platform}
+use Rattle.tl_path.specs.Names.{is_platform}
 use Rattle.tl_object.specs.declared.fault.LineKind.{LineKind}
 use Rattle.tl_object.specs.declared.fault.LineKind.TheVariants as kinds
 use Rattle.tl_object.specs.declared.fault.LineFault.{LineFault}

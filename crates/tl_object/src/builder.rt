@@ -7,10 +7,9 @@ use crate::head::Head;
 use crate::key::Part;
 use std::alloc::{AllocError, Global};
 use tl_entry::{
-    BinFiles, BinList, Container, DocFileList, DocFiles, Facts, Files, Object, Paths, PlatformName,
-    Texts,
+    BinFiles, BinList, Container, DocFileList, DocFiles, Facts, Files, Object, Paths, Texts,
 };
-use tl_path::{Category, Name};
+use tl_path::{Category, Name, Platform};
 use tl_text::Text;
 
 /// What some lines of an entry gave; what none of them gave is `None` or empty.
@@ -107,7 +106,7 @@ impl Builder {
     fn put_bin(
         &mut self,
         alloc: Global,
-        platform: PlatformName,
+        platform: Platform,
         blocks: u64,
         files: DocFileList,
     ) -> Result<(), AllocError>

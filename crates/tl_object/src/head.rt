@@ -14,8 +14,8 @@ use crate::value::{
     small_number_of, text_of,
 };
 use std::alloc::{AllocError, Global};
-use tl_entry::{DocFile, Fact, PlatformName, is_fact_key};
-use tl_path::{Category, Name};
+use tl_entry::{DocFile, Fact, is_fact_key};
+use tl_path::{Category, Name, Platform};
 use tl_text::{Text, TextError};
 
 /// What a line that is no file's says.
@@ -34,7 +34,7 @@ pub enum Head {
     Size(Part, u64),
     Digest(Part, [u8; 64]),
     Files(Part, u64),
-    Binfiles(PlatformName, u64),
+    Binfiles(Platform, u64),
     Fact(Fact),
 }
 

@@ -20,6 +20,7 @@ pub use read::{Entry, Named, read_entry, read_entry_name, read_object};
 pub use source::next_entry;
 pub use tl_entry::{
     BinFiles, BinList, Container, Copied, DocFile, DocFileList, DocFiles, Fact, Facts, Files,
-    Keyed, Object, Paths, PlatformName, Texts, copies, place_for,
+    Keyed, Object, Paths, Texts, copies, place_for,
 };
+pub use tl_path::Platform;
 pub use write::{append_object, write_object};

@@ -1,6 +1,6 @@
 //! The values of an entry's lines.
 ghost use Rattle.std.specs.Prelude.{◌≡◌, ◌^◌, List, IfOk, option_copied};
-ghost use Rattle.tl_entry.specs.Forms.{is_platform};
+ghost use Rattle.tl_path.specs.Names.{is_platform};
 ghost use Rattle.tl_object.specs.declared.fault.LineKind.TheVariants as kinds;
 ghost use Rattle.tl_object.specs.Values.{Gives, formed, text_value, name_value, path_value, number_value, category_value, flag_value, digest_value, stripped, blocks_value, platform_with, bin_value};
 
@@ -8,8 +8,7 @@ use crate::fault::{LineFault, LineKind};
 use crate::source::cut_at;
 use hex::FromHex;
 use std::alloc::Global;
-use tl_entry::{PlatformName, is_platform};
-use tl_path::{Category, Name, NameError, Path, PathError};
+use tl_path::{Category, Name, NameError, Path, PathError, Platform, is_platform};
 use tl_text::{Text, TextError, decimal_u32, decimal_u64};
 
 const BAD_VALUE: LineFault = LineFault::Bad(LineKind::Value);
@@ -111,20 +110,16 @@ pub(crate) fn blocks_of(value: &[u8]) -> Result<u64, LineFault>
     }
 }
 
-fn platform_of(alloc: Global, bytes: &[u8]) -> Result<PlatformName, LineFault>
+fn platform_of(alloc: Global, bytes: &[u8]) -> Result<Platform, LineFault>
     ensures { Gives result (formed (is_platform bytes.now) bytes.now kinds.Value) }
 {
     if !is_platform(bytes) {
         return Err(BAD_VALUE);
     }
-    Ok(PlatformName::new(Vec::from_slice(alloc, bytes)?))
+    Ok(Platform::of(alloc, bytes)?)
 }
 
-fn platform_with(
-    alloc: Global,
-    platform: &[u8],
-    sized: &[u8],
-) -> Result<(PlatformName, u64), LineFault>
+fn platform_with(alloc: Global, platform: &[u8], sized: &[u8]) -> Result<(Platform, u64), LineFault>
     ensures { Gives result (platform_with platform.now sized.now) }
 {
     let name = platform_of(alloc, platform)?;
@@ -132,7 +127,7 @@ fn platform_with(
     Ok((name, blocks))
 }
 
-pub(crate) fn bin_of(alloc: Global, value: &[u8]) -> Result<(PlatformName, u64), LineFault>
+pub(crate) fn bin_of(alloc: Global, value: &[u8]) -> Result<(Platform, u64), LineFault>
     ensures { Gives result (bin_value value.now) }
 {
     let Some((first, second)) = cut_at(value, b' ') else {

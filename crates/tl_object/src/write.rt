@@ -7,7 +7,7 @@ ghost use Rattle.tl_model.specs.Acks.{IsPlain};
 ghost use Rattle.hex.specs.Hex.{encode_lower};
 ghost use Rattle.tl_text.specs.Texts.{IsText};
 ghost use Rattle.tl_path.specs.Path.{IsPath};
-ghost use Rattle.tl_entry.specs.Forms.{is_platform};
+ghost use Rattle.tl_path.specs.Names.{is_platform};
 ghost use Rattle.tl_object.specs.Plain.{is_key};
 ghost use Rattle.tl_object.specs.Formed.{IsFormedText, IsFormedSize, IsDigest, IsFormedDigest, IsFormedBox, IsFormedFile, IsFormedDoc, IsFormedSection, IsFormedBin, IsFormedFact, HasFormedFront, HasFormedTexts, HasFormedFiles};
 ghost use Rattle.tl_object.specs.Again.{ReadsAgain};

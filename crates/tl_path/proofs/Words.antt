@@ -7,8 +7,8 @@ use Rattle.std.proofs.lemmas.List.{length-take-le, get_or-take, get_or_append_le
 use Rattle.std.proofs.lemmas.List.Folds.{list_all-append}
 use Rattle.std.proofs.lemmas.Bool.{true≢false}
 use Rattle.std.proofs.lemmas.Bool.Decides.{nat_tests}
-use Rattle.tl_path.specs.Bytes.{is_letter_or_digit, is_of_name, is_of_tag, is_of_platform}
-use Rattle.tl_path.specs.Names.{is_word, is_name, is_tag, IsLongestNameFront}
+use Rattle.tl_path.specs.Bytes.{is_letter_or_digit, is_lower_or_digit, is_of_name, is_of_tag, is_of_platform}
+use Rattle.tl_path.specs.Names.{is_word, is_name, is_tag, is_platform, IsLongestNameFront}
 
 left : (a b : Bool) → (a && b) ≡ true → a ≡ true
 left true b h = refl
@@ -32,7 +32,7 @@ word_first first other most text h =
     (right (nat_le (length text) most) (first (get_or text 0 0) && list_all other text)
     (right (nat_le 1 (length text)) (nat_le (length text) most && (first (get_or text 0 0) && list_all other text)) h))
 
-word_all : (first other : ℕ → Bool) (most : ℕ) (text : List ℕ) → is_word first other most text ≡ true → list_all other text ≡ true
+pub word_all : (first other : ℕ → Bool) (most : ℕ) (text : List ℕ) → is_word first other most text ≡ true → list_all other text ≡ true
 word_all first other most text h =
     right (first (get_or text 0 0)) (list_all other text)
     (right (nat_le (length text) most) (first (get_or text 0 0) && list_all other text)
@@ -44,11 +44,18 @@ at_most n m h = grind (arith, nat_tests, h)
 le_test : (n m : ℕ) → n ≤ m → nat_le n m ≡ true
 le_test n m h = grind (arith, nat_tests, h)
 
-word_short : (first other : ℕ → Bool) (most : ℕ) (text : List ℕ) → is_word first other most text ≡ true → length text ≤ most
+pub word_short : (first other : ℕ → Bool) (most : ℕ) (text : List ℕ) → is_word first other most text ≡ true → length text ≤ most
 word_short first other most text h =
     at_most (length text) most
     (left (nat_le (length text) most) (first (get_or text 0 0) && list_all other text)
     (right (nat_le 1 (length text)) (nat_le (length text) most && (first (get_or text 0 0) && list_all other text)) h))
+
+-- each byte of a platform is one that platforms have, and it is short
+pub platform_bytes : (text : List ℕ) → is_platform text ≡ true → list_all is_of_platform text ≡ true
+platform_bytes text is = word_all is_lower_or_digit is_of_platform 32 text is
+
+pub platform_short : (text : List ℕ) → is_platform text ≡ true → length text ≤ 32
+platform_short text is = word_short is_lower_or_digit is_of_platform 32 text is
 
 make_word : (first other : ℕ → Bool) (most : ℕ) (text : List ℕ) → 0 < length text → length text ≤ most → first (get_or text 0 0) ≡ true → list_all other text ≡ true → is_word first other most text ≡ true
 make_word first other most text some short f all =

@@ -22,6 +22,7 @@ pub use kinds::{Category, Check};
 pub use name::Name;
 pub use path::Path;
 pub use path_ref::PathRef;
+pub use platform::{Platform, is_platform};
 pub use platforms::Platforms;
 pub use tag::Tag;
 

@@ -13,9 +13,10 @@ use std::alloc::{AllocError, Global};
 use std::cmp::Ordering;
 use std::marker::Model;
 
-// A platform. Its order is that of its bytes.
+/// A platform: 1 to 32 lower case letters of ASCII, digits, `_` and `-`, the first a letter or digit. Its order is that of
+/// its bytes.
 #[derive(Drop)]
-pub(crate) struct Platform {
+pub struct Platform {
     text: String,
 }
 
@@ -33,7 +34,8 @@ impl Model for Platform {
 const LONGEST: usize = 32;
 
 impl Platform {
-    pub(crate) fn of(alloc: Global, text: &[u8]) -> Result<Platform, AllocError>
+    /// The platform of a text that has the form of one.
+    pub fn of(alloc: Global, text: &[u8]) -> Result<Platform, AllocError>
         requires { is_platform text.now ≡ true }
         ensures { IfOk result (λ platform. platform ≡ text.now) }
     {
@@ -42,14 +44,16 @@ impl Platform {
         })
     }
 
-    pub(crate) fn bytes(&self) -> &[u8]
+    /// The platform's bytes. Takes no memory.
+    pub fn bytes(&self) -> &[u8]
         ensures bytes { result.now ≡ self.now }
         ensures platform { is_platform self.now ≡ true }
     {
         self.text.as_bytes()
     }
 
-    pub(crate) fn text(&self) -> &str
+    /// The platform's text. Takes no memory.
+    pub fn text(&self) -> &str
         ensures { result.now ≡ self.now }
     {
         self.text.as_str()
@@ -104,7 +108,8 @@ impl Ord for Platform {
     }
 }
 
-pub(crate) fn is_platform(text: &[u8]) -> bool
+/// Whether a text has the form of a platform. Takes no memory.
+pub fn is_platform(text: &[u8]) -> bool
     ensures { result ≡ is_platform text.now }
 {
     !text.is_empty()

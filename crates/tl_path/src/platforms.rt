@@ -14,8 +14,7 @@ use std::alloc::{AllocError, Global};
 use std::fmt;
 use std::marker::Model;
 
-/// Up to 32 platforms in the order of their bytes, no two the same. A platform is 1 to 32 lower case letters of ASCII,
-/// digits, `_` and `-`, the first a letter or digit.
+/// Up to 32 platforms in the order of their bytes, no two the same.
 #[derive(Drop)]
 pub struct Platforms {
     names: Vec<Platform>,
