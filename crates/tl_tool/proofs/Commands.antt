@@ -2,7 +2,7 @@
 use Rattle.std.proofs.Common.{◌≡◌, ℕ, List, Option, Some, None, ◌∙◌, ap}
 use Rattle.tl_model.specs.Volume.{Volume}
 use Rattle.tl_words.specs.declared.faults.Fault.{Fault}
-use Rattle.tl_words.specs.declared.command.Action.{Action}
+use Rattle.tl_action.specs.declared.command.Action.{Action}
 use Rattle.tl_words.specs.Faults.{words_fault}
 use Rattle.tl_tool.specs.declared.refusal.Refusal.TheVariants.{BadWords, BadJournal}
 use Rattle.tl_tool.specs.Run.{refused, by_words, act_at, act_of, action_at, run_of, run_without, journal_place}

@@ -3,7 +3,7 @@ use Rattle.std.proofs.Common.{◌≡◌, ℕ, List, [], ◌∷◌, ◌++◌, Vec
 use Rattle.std.specs.List.{join_with_byte}
 use Rattle.std.proofs.lemmas.List.{append-nil}
 use Rattle.std.specs.declared.alloc.Global.{Global}
-use Rattle.tl_words.specs.Inside.{texts}
+use Rattle.tl_action.specs.Texts.{texts}
 
 -- each word with a space in front
 abbrev pub spaced : List (Vec ℕ Global) → List ℕ

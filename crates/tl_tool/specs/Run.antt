@@ -18,8 +18,8 @@ use Rattle.tl_tree.specs.Planted.{database_text}
 use Rattle.tl_tree.specs.Changes.{with_entry, changed}
 use Rattle.tl_tree.specs.declared.change.Part.TheVariants.{Entry}
 use Rattle.tl_words.specs.declared.faults.Fault.{Fault}
-use Rattle.tl_words.specs.declared.command.Action.{Action}
-use Rattle.tl_words.specs.declared.command.Action.TheVariants.{DumpTlpdb, Setting}
+use Rattle.tl_action.specs.declared.command.Action.{Action}
+use Rattle.tl_action.specs.declared.command.Action.TheVariants.{DumpTlpdb, Setting}
 use Rattle.tl_words.specs.Faults.{words_fault, program_parts, plains}
 use Rattle.tl_words.specs.Commands.{first_action, action_of}
 use Rattle.tl_tool.specs.declared.ending.Ending.{Ending}

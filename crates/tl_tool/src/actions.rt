@@ -5,7 +5,7 @@ ghost use Rattle.tl_model.specs.Seen.{Told};
 ghost use Rattle.tl_model.specs.Trace.{steps_of};
 ghost use Rattle.tl_journal_text.specs.Stand.{tree_of};
 ghost use Rattle.tl_tree.specs.Planted.{database_text};
-ghost use Rattle.tl_words.specs.Inside.{texts};
+ghost use Rattle.tl_action.specs.Texts.{texts};
 ghost use Rattle.tl_tool.specs.Acted.{IsActed, left_by};
 ghost use Rattle.tl_tool.specs.Run.{over_database, dump_run, option_run};
 ghost use Rattle.tl_tool.specs.Status.{IsFault};

@@ -9,7 +9,7 @@ ghost use Rattle.tl_path.specs.Names.{is_name};
 ghost use Rattle.tl_journal_text.specs.Stand.{tree_of};
 ghost use Rattle.tl_db.specs.Options.{option_name, option_named, entry_with};
 ghost use Rattle.tl_tree.specs.declared.change.Part.TheVariants.{Entry};
-ghost use Rattle.tl_words.specs.Inside.{texts};
+ghost use Rattle.tl_action.specs.Texts.{texts};
 ghost use Rattle.tl_tool.specs.Acted.{IsActed, left_by};
 ghost use Rattle.tl_tool.specs.Run.{entry_run, option_run, saying, set_run, show_run};
 ghost use Rattle.tl_tool.specs.Settings.{option_label, option_line, option_lines};

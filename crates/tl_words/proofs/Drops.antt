@@ -3,7 +3,7 @@ use Rattle.std.proofs.Common.{◌≡◌, ℕ, ◌+◌, ◌<◌, List, [], ◌∷
 use Rattle.std.specs.List.{list_any}
 use Rattle.tl_words.specs.Faults.{size_fault}
 use Rattle.std.specs.declared.alloc.Global.{Global}
-use Rattle.tl_words.specs.Inside.{texts}
+use Rattle.tl_action.specs.Texts.{texts}
 
 item_from : {A : Type 0} (xs : List A) (i : ℕ) (v : A) → i < length xs → v ≡ get_or xs i v → drop i xs ≡ v ∷ drop (suc i) xs
 item_from [] i v h is = absurd (omega arith)

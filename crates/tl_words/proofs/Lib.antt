@@ -1,5 +1,5 @@
 pub mod Drops
 pub mod Named
-pub mod Built
 pub mod Seen
 pub mod Places
+pub mod Fit

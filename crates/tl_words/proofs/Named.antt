@@ -1,17 +1,18 @@
 -- The action of a word is one of those that are on.
 use Rattle.std.proofs.Common.{◌≡◌, ℕ, Bool, true, false, cond, ◌||◌, List, [], ◌∷◌, Option, Some, None, option_map, refl, ap, sym, ◌∙◌, subst, bytes_eq, Result, Ok, Err, IfOk}
 use Rattle.std.proofs.lemmas.Slice.Eq.{bytes_eq-Decides}
-use Rattle.tl_words.specs.declared.action_name.ActionName.{ActionName}
-use Rattle.tl_words.specs.declared.action_name.ActionName.TheVariants.{DumpTlpdb, Info, Search, Candidates, Check, Install, Update, Remove, Backup, Restore, Setting, Pinning, Expand, Edit, Build, Mirror, Lsr, Which, Shell, GenerateMaster}
-use Rattle.tl_words.specs.declared.table.OptionName.{OptionName}
-use Rattle.tl_words.specs.declared.command.Action.{Action}
-use Rattle.tl_words.specs.declared.command.Command.{Command}
+use Rattle.tl_action.specs.declared.action_name.ActionName.{ActionName}
+use Rattle.tl_action.specs.declared.action_name.ActionName.TheVariants.{DumpTlpdb, Info, Search, Candidates, Check, Install, Update, Remove, Backup, Restore, Setting, Pinning, Expand, Edit, Build, Mirror, Lsr, Which, Shell, GenerateMaster}
+use Rattle.tl_action.specs.declared.table.OptionName.{OptionName}
+use Rattle.tl_action.specs.declared.command.Action.{Action}
+use Rattle.tl_action.specs.declared.command.Command.{Command}
 use Rattle.tl_words.specs.declared.error.WordsError.{WordsError}
 use Rattle.tl_words.specs.Settings.{has_option}
-use Rattle.tl_words.specs.Table.{action_text, action_named_among, is_on}
+use Rattle.tl_action.specs.Table.{action_text, action_named_among, is_on}
 use Rattle.tl_words.specs.Parts.{Part}
 use Rattle.tl_words.specs.Faults.{plains}
-use Rattle.tl_words.specs.Commands.{first_action_among, later_words, unplaced, action_with, action_of, action_name, IsCommandAmong}
+use Rattle.tl_words.specs.Commands.{first_action_among, later_words, unplaced, action_with, action_of, IsCommandAmong}
+use Rattle.tl_action.specs.Actions.{action_name}
 
 same_text : (text : List ℕ) → bytes_eq text text ≡ true
 same_text text = (bytes_eq-Decides text text).1 refl

@@ -2,16 +2,17 @@
 use Rattle.std.proofs.Common.{◌≡◌, ℕ, ◌+◌, ◌<◌, ◌≤◌, Bool, true, false, cond, not, ◌&&◌, ◌||◌, ◌==◌, nat_le, nat_lt, List, [], ◌∷◌, length, drop, Option, Some, None, refl, ap, sym, subst, ◌∙◌, arith, ⊎_elim, bytes_eq, codes, is_none}
 use Rattle.std.proofs.lemmas.Bool.Decides.{nat_tests}
 use Rattle.tl_words.specs.declared.faults.Fault.{Fault}
-use Rattle.tl_words.specs.declared.table.OptionName.{OptionName}
-use Rattle.tl_words.specs.declared.table.OptionName.TheVariants.{Repository, Workers, Usermode, Usertree, Local, All}
-use Rattle.tl_words.specs.declared.action_name.ActionName.{ActionName}
-use Rattle.tl_words.specs.declared.operands.Form.{Form}
-use Rattle.tl_words.specs.declared.operands.Expected.{Expected}
+use Rattle.tl_action.specs.declared.table.OptionName.{OptionName}
+use Rattle.tl_action.specs.declared.table.OptionName.TheVariants.{Repository, Workers, Usermode, Usertree, Local, All}
+use Rattle.tl_action.specs.declared.action_name.ActionName.{ActionName}
+use Rattle.tl_action.specs.declared.form.Form.{Form}
+use Rattle.tl_action.specs.declared.expected.Expected.{Expected}
 use Rattle.tl_words.specs.Parts.{Part, given, plain, parts, own_value, is_option_word, option_name, option_value, is_valued}
-use Rattle.tl_words.specs.Table.{takes_value, option_named, action_named_among, needs_local, operands_of, is_served}
+use Rattle.tl_action.specs.Table.{takes_value, option_named, action_named_among, needs_local, operands_of, is_served}
 use Rattle.std.specs.List.{list_any}
 use Rattle.tl_words.specs.Order.{fault, or_else, earlier}
-use Rattle.tl_words.specs.Operands.{operand_fault, operands_fault, form_of, form_kind, fits, after, is_needed}
+use Rattle.tl_words.specs.Operands.{operand_fault, operands_fault, form_kind}
+use Rattle.tl_action.specs.Forms.{form_of, fits, after, is_needed}
 use Rattle.tl_words.specs.Settings.{given_fault, setting_fault, options_fault, tags_after, tag_of, is_worker_count, has_option, repositories_of}
 use Rattle.tl_words.specs.Faults.{size_fault, plains, is_foreign, foreign_fault, user_fault, required_fault, flags_fault, repository_fault, known_fault, action_fault, command_fault}
 use Rattle.tl_words.specs.declared.error.WordKind.TheVariants as kinds

@@ -5,20 +5,20 @@ use Rattle.tl_model.specs.Decimal.{decimal_value}
 use Rattle.tl_path.specs.declared.kinds.Check.{Check}
 use Rattle.tl_path.specs.declared.kinds.Check.TheVariants.{All as AllChecks}
 use Rattle.tl_path.specs.Kinds.{check_word, all_checks}
-use Rattle.tl_words.specs.declared.table.OptionName.{OptionName}
-use Rattle.tl_words.specs.declared.table.OptionName.TheVariants as options
-use Rattle.tl_words.specs.declared.action_name.ActionName.{ActionName}
-use Rattle.tl_words.specs.declared.action_name.ActionName.TheVariants as names
-use Rattle.tl_words.specs.declared.operands.PinWord.{PinWord}
-use Rattle.tl_words.specs.declared.operands.PinWord.TheVariants as pins
-use Rattle.tl_words.specs.declared.command.PinAction.{PinAction}
-use Rattle.tl_words.specs.declared.command.PinAction.TheVariants.{Show, Add, Remove}
-use Rattle.tl_words.specs.declared.command.Action.{Action}
-use Rattle.tl_words.specs.declared.command.Action.TheVariants as actions
-use Rattle.tl_words.specs.declared.command.Command.{Command}
-use Rattle.tl_words.specs.Table.{built_actions, session_actions, action_named_among, is_on}
+use Rattle.tl_action.specs.declared.table.OptionName.{OptionName}
+use Rattle.tl_action.specs.declared.table.OptionName.TheVariants as options
+use Rattle.tl_action.specs.declared.action_name.ActionName.{ActionName}
+use Rattle.tl_action.specs.declared.action_name.ActionName.TheVariants as names
+use Rattle.tl_action.specs.declared.form.PinWord.{PinWord}
+use Rattle.tl_action.specs.declared.form.PinWord.TheVariants as pins
+use Rattle.tl_action.specs.declared.command.PinAction.{PinAction}
+use Rattle.tl_action.specs.declared.command.PinAction.TheVariants.{Show, Add, Remove}
+use Rattle.tl_action.specs.declared.command.Action.{Action}
+use Rattle.tl_action.specs.declared.command.Action.TheVariants as actions
+use Rattle.tl_action.specs.declared.command.Command.{Command}
+use Rattle.tl_action.specs.Table.{built_actions, session_actions, action_named_among, is_on}
 use Rattle.tl_words.specs.Parts.{Part}
-use Rattle.tl_words.specs.Operands.{is_number_within, pin_word}
+use Rattle.tl_action.specs.Forms.{is_number_within, pin_word}
 use Rattle.tl_words.specs.Settings.{repositories_of, workers_of, user_of, has_option}
 use Rattle.tl_words.specs.Faults.{plains}
 
@@ -107,37 +107,6 @@ action_with has words names.GenerateMaster = actions.GenerateMaster (number_with
 -- an action with the options and the operands among some parts
 abbrev pub action_of : List Part → ActionName → Action
 action_of all action = action_with (λ option. has_option option all) (later_words (unplaced (plains all))) action
-
--- the name of an action
-abbrev pub action_name : Action → ActionName
-action_name (actions.DumpTlpdb local) = names.DumpTlpdb
-action_name (actions.Info name) = names.Info
-action_name (actions.Search word) = names.Search
-action_name (actions.Candidates name) = names.Candidates
-action_name (actions.Check what) = names.Check
-action_name (actions.Install list no_depends no_depends_at_all reinstall) = names.Install
-action_name (actions.Update list every no_auto_install no_auto_remove reinstall_forcibly_removed) = names.Update
-action_name (actions.Remove list force) = names.Remove
-action_name (actions.Backup list every) = names.Backup
-action_name (actions.Restore name revision) = names.Restore
-action_name (actions.Setting option values) = names.Setting
-action_name (actions.Pinning asked) = names.Pinning
-action_name (actions.Expand name) = names.Expand
-action_name actions.Edit = names.Edit
-action_name actions.Build = names.Build
-action_name actions.Mirror = names.Mirror
-action_name actions.Lsr = names.Lsr
-action_name (actions.Which word) = names.Which
-action_name actions.Shell = names.Shell
-action_name (actions.GenerateMaster count) = names.GenerateMaster
-
--- the action is one of those that are built
-abbrev pub IsBuilt : Action → Type 0
-IsBuilt action = IsTrue (is_on built_actions (action_name action))
-
--- the action is one of those that are on in a session's line
-abbrev pub IsBuiltForSessions : Action → Type 0
-IsBuiltForSessions action = IsTrue (is_on session_actions (action_name action))
 
 -- what a command says of some parts, where some actions are on: the repositories in order, the workers, 4 where none are given,
 -- the action with its options and operands, the folder of the user's tree, and whether formats are made

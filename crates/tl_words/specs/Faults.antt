@@ -2,10 +2,10 @@
 use Rattle.std.specs.Prelude.{ℕ, ◌+◌, ◌==◌, ◌&&◌, ◌||◌, Bool, true, false, not, if◌then◌else◌, List, [], ◌∷◌, length, Option, Some, None, nat_lt}
 use Rattle.tl_words.specs.declared.error.WordKind.TheVariants as kinds
 use Rattle.tl_words.specs.declared.faults.Fault.{Fault}
-use Rattle.tl_words.specs.declared.table.OptionName.{OptionName}
-use Rattle.tl_words.specs.declared.table.OptionName.TheVariants.{Usertree, Usermode, Local, All, Formats, Reinstall, NoDependsAtAll}
-use Rattle.tl_words.specs.declared.action_name.ActionName.{ActionName}
-use Rattle.tl_words.specs.Table.{built_actions, session_actions, action_named_among, goes_with, needs_local, operands_of, is_served}
+use Rattle.tl_action.specs.declared.table.OptionName.{OptionName}
+use Rattle.tl_action.specs.declared.table.OptionName.TheVariants.{Usertree, Usermode, Local, All, Formats, Reinstall, NoDependsAtAll}
+use Rattle.tl_action.specs.declared.action_name.ActionName.{ActionName}
+use Rattle.tl_action.specs.Table.{built_actions, session_actions, action_named_among, goes_with, is_unfit_for_users, is_for_users, needs_local, operands_of, is_served}
 use Rattle.tl_words.specs.Parts.{Part, given, plain, parts}
 use Rattle.tl_words.specs.Order.{fault, or_else, earlier}
 use Rattle.tl_words.specs.Settings.{options_fault, repositories_of, has_option}
@@ -22,18 +22,6 @@ abbrev pub plains : List Part → List (ℕ × List ℕ)
 plains [] = []
 plains (plain at word ∷ others) = (at, word) ∷ plains others
 plains (given at option value ∷ others) = plains others
-
--- whether an option may not stand beside `usermode`
-abbrev pub is_unfit_for_users : OptionName → Bool
-is_unfit_for_users NoDependsAtAll = true
-is_unfit_for_users Reinstall = true
-is_unfit_for_users Formats = true
-is_unfit_for_users _ = false
-
--- whether an option needs `usermode` beside it
-abbrev pub is_for_users : OptionName → Bool
-is_for_users Usertree = true
-is_for_users _ = false
 
 -- whether an option is refused: it doesn't go with the action, or not with `usermode`, or not without it
 abbrev pub is_foreign : ActionName → Bool → Option OptionName → Bool

@@ -1,5 +1,5 @@
 -- What is left of an iterator over the parts of words.
-pub use Rattle.tl_words.specs.Texts.{texts}
+use Rattle.tl_action.specs.Texts.{texts}
 use Rattle.std.specs.Prelude.{ℕ, List, drop, None, option_map}
 use Rattle.tl_words.specs.declared.parts.PartsIter.{PartsIter}
 use Rattle.tl_words.specs.declared.parts.Placed.{Placed}

@@ -1,13 +1,11 @@
-pub mod Table
 pub mod Parts
 pub mod Order
 pub mod Operands
 pub mod Settings
 pub mod Faults
 pub mod Commands
-pub mod Texts
+pub mod Fit
 pub mod Inside
 pub mod Errors
 pub mod Lines
 pub mod Places
-pub mod Usage

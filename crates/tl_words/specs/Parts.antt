@@ -1,8 +1,8 @@
 -- Which words are options, which are their values, and which are the action and its operands.
 use Rattle.std.specs.Prelude.{ℕ, ◌+◌, ◌==◌, ◌&&◌, Bool, true, false, not, if◌then◌else◌, List, [], ◌∷◌, length, drop, slice_index, codes, Option, Some, None, is_none, nat_lt, nat_le, bytes_eq}
 use Rattle.std.specs.List.{before_first, after_first, position_or_len}
-use Rattle.tl_words.specs.declared.table.OptionName.{OptionName}
-use Rattle.tl_words.specs.Table.{takes_value, option_named}
+use Rattle.tl_action.specs.declared.table.OptionName.{OptionName}
+use Rattle.tl_action.specs.Table.{takes_value, option_named}
 
 -- what words stand for: an option, which is None where no action knows it, with its value and the value's place,
 -- or a word that is no option, such as the action

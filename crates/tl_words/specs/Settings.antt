@@ -5,12 +5,12 @@ use Rattle.tl_model.specs.Decimal.{decimal_value}
 use Rattle.tl_path.specs.Names.{is_tag}
 use Rattle.tl_words.specs.declared.error.WordKind.TheVariants as kinds
 use Rattle.tl_words.specs.declared.faults.Fault.{Fault}
-use Rattle.tl_words.specs.declared.table.OptionName.{OptionName}
-use Rattle.tl_words.specs.declared.table.OptionName.TheVariants as options
-use Rattle.tl_words.specs.declared.command.Repository.{Repository}
+use Rattle.tl_action.specs.declared.table.OptionName.{OptionName}
+use Rattle.tl_action.specs.declared.table.OptionName.TheVariants as options
+use Rattle.tl_action.specs.declared.command.Repository.{Repository}
 use Rattle.tl_words.specs.Order.{fault, or_else}
-use Rattle.tl_words.specs.Operands.{is_number_within}
-use Rattle.tl_words.specs.Table.{takes_value, is_same_option}
+use Rattle.tl_action.specs.Forms.{is_number_within}
+use Rattle.tl_action.specs.Table.{takes_value, is_same_option}
 use Rattle.tl_words.specs.Parts.{Part, given, plain}
 
 -- whether a repository's value begins with a tag and a '='

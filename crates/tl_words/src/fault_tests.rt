@@ -1,11 +1,11 @@
 // Tables of words that aren't a command, with all actions on.
-use crate::action_name::ActionName;
 use crate::read::{read_shell_words_among, read_words_among};
 use crate::tests::{bad_words, words_of};
 use crate::{WordKind, WordsError};
 use std::alloc::{AllocError, Global};
 use std::process::Abort;
 use std::test::Fail;
+use tl_action::ActionName;
 
 // Every action, on.
 pub(crate) const ALL: [ActionName; 20] = [

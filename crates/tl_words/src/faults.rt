@@ -3,15 +3,15 @@ ghost use Rattle.std.specs.Prelude.{◌≡◌, ◌==◌, ◌||◌, length, nat_l
 ghost use Rattle.tl_words.specs.Order.{earlier};
 ghost use Rattle.tl_words.specs.Settings.{is_option, has_option, repositories_of};
 ghost use Rattle.tl_words.specs.Faults.{size_fault, is_foreign, foreign_fault, user_fault, required_fault, flags_fault, repository_fault, asked_fault};
-ghost use Rattle.tl_words.specs.Inside.{texts, parts_left, plains_left};
+ghost use Rattle.tl_action.specs.Texts.{texts};
+ghost use Rattle.tl_words.specs.Inside.{parts_left, plains_left};
 
-use crate::action_name::ActionName;
 use crate::error::WordKind;
 use crate::operands::operands_fault;
 use crate::parts::{PartRef, PartsIter};
 use crate::plains::PlainsIter;
-use crate::table::OptionName;
 use std::alloc::{AllocError, Global};
+use tl_action::{ActionName, OptionName};
 
 /// A fault of words.
 #[derive(Clone, Copy, Debug, PartialEq, Eq)]

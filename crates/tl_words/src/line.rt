@@ -2,7 +2,7 @@
 ghost use Rattle.std.specs.Prelude.{◌≡◌, ◌<◌, ◌^◌, length, map, IfOk, IfErr, OnOk};
 ghost use Rattle.tl_model.specs.Words.{quoted_words, IsQuoted};
 ghost use Rattle.tl_text.specs.Quotes.{IsQuoteFault};
-ghost use Rattle.tl_words.specs.Inside.{texts};
+ghost use Rattle.tl_action.specs.Texts.{texts};
 ghost use Rattle.tl_words.specs.Lines.{unquoted};
 
 use std::alloc::{AllocError, Global};

@@ -5,7 +5,7 @@ ghost use Rattle.std.specs.List.{position_or_len, before_first, after_first};
 ghost use Rattle.std.specs.Iterator.{YieldsFirstBy, item_count};
 ghost use Rattle.tl_words.specs.Parts.{is_option_word, option_body, option_name, option_value, is_valued};
 
-use crate::table::OptionName;
+use tl_action::OptionName;
 
 /// A word with its place among all words.
 #[derive(Clone, Copy)]
@@ -94,9 +94,10 @@ fn is_valued(option: Option<OptionName>) -> bool
 
 impl<'a> PartsIter<'a> {
     ghost use Rattle.std.specs.Prelude.{[], ◌∷◌, MatchOption};
-    ghost use Rattle.tl_words.specs.Inside.{texts, parts_left};
+    ghost use Rattle.tl_action.specs.Texts.{texts};
+    ghost use Rattle.tl_words.specs.Inside.{parts_left};
     ghost use Rattle.tl_words.specs.Parts.{parts, given};
-    ghost use Rattle.tl_words.specs.declared.table.OptionName.{OptionName};
+    ghost use Rattle.tl_action.specs.declared.table.OptionName.{OptionName};
     ghost use Rattle.std.specs.Prelude.{ℕ, Option};
 
     // The parts of the program's words behind the root.

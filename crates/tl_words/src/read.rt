@@ -3,22 +3,23 @@ ghost use Rattle.std.specs.Prelude.{◌≡◌, ◌≤◌, [], Some, None, true, 
 ghost use Rattle.tl_words.specs.Order.{earlier};
 ghost use Rattle.tl_words.specs.Settings.{options_fault, repositories_of, workers_of, user_of};
 ghost use Rattle.tl_words.specs.Faults.{size_fault, action_fault, command_fault, plains, program_parts, session_parts, words_fault_among, words_fault, session_fault_among, session_fault};
-ghost use Rattle.tl_words.specs.Commands.{first_action_among, action_of, IsCommandAmong, IsCommandOf, IsSessionCommandOf, IsBuilt, IsBuiltForSessions, HasRoot};
-ghost use Rattle.tl_words.specs.Inside.{texts, parts_left};
+ghost use Rattle.tl_words.specs.Commands.{first_action_among, action_of, IsCommandAmong, IsCommandOf, IsSessionCommandOf, HasRoot};
+ghost use Rattle.tl_action.specs.Actions.{IsBuilt, IsBuiltForSessions};
+ghost use Rattle.tl_action.specs.Texts.{texts};
+ghost use Rattle.tl_words.specs.Inside.{parts_left};
 ghost use Rattle.tl_words.specs.Errors.{IsErrorOf, IsReadError};
 ghost use Rattle.tl_words.specs.Places.{AreWithin};
 
-use crate::action_name::{ActionName, BUILT, BUILT_IN_SESSION};
-use crate::command::{Action, Command, Repositories};
 use crate::error::{WordKind, WordsError};
 use crate::faults::{Fault, ReadError, asked_fault, earlier_of, has_option, size_fault};
-use crate::lists::Bytes;
 use crate::parts::PartsIter;
 use crate::plains::PlainsIter;
 use crate::settings::{Settings, read_options};
-use crate::table::OptionName;
 use crate::values::read_action;
 use std::alloc::Global;
+use tl_action::{
+    Action, ActionName, BUILT, BUILT_IN_SESSION, Bytes, Command, OptionName, Repositories,
+};
 
 fn refused(fault: Fault) -> WordsError
     requires { fault.at ≤ 4096 }

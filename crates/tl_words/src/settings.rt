@@ -7,14 +7,11 @@ ghost use Rattle.tl_model.specs.Decimal.{decimal_value};
 ghost use Rattle.tl_words.specs.Inside.{parts_left, placed_of};
 ghost use Rattle.tl_words.specs.Errors.{IsReadError};
 
-use crate::command::Repository;
 use crate::error::WordKind;
 use crate::faults::{Fault, ReadError};
-use crate::lists::Bytes;
-use crate::operands::number_within;
 use crate::parts::{PartRef, PartsIter, Placed, first_equals};
-use crate::table::OptionName;
 use std::alloc::{AllocError, Global};
+use tl_action::{Bytes, OptionName, Repository, number_within};
 use tl_path::{Tag, TagError};
 
 /// What the options with a value say.
@@ -45,7 +42,8 @@ fn main_tag(alloc: Global) -> Result<Tag, AllocError>
 {
     match Tag::parse(alloc, b"main") {
         Ok(tag) => Ok(tag),
-        Err(_) => Err(AllocError),
+        Err(TagError::NoMemory) => Err(AllocError),
+        Err(TagError::NotTag) => unreachable!(),
     }
 }
 

@@ -3,7 +3,6 @@ use crate::fault_tests::ALL;
 use crate::read::read_words_among;
 use crate::{
     Action, Command, PinAction, WordKind, WordsError, read_shell_words, read_words, split_line,
-    usage,
 };
 use std::alloc::{AllocError, Global};
 use std::test::Fail;
@@ -323,14 +322,5 @@ fn lines_are_split(rt: HostRuntime) -> Result<(), Fail> {
     assert_eq!(rt; words[1].as_slice(), b"a bc".as_slice());
     assert!(rt; words[2].is_empty());
     assert!(rt; split_line(rt.alloc(), b"info \"a").is_err());
-    Ok(())
-}
-
-#[test]
-fn the_usage_names_each_action(rt: HostRuntime) -> Result<(), Fail> {
-    let text = usage(rt.alloc())?;
-    assert!(rt; text.as_str().contains("  dump-tlpdb -local\n"));
-    assert!(rt; text.as_str().contains("  option [OPTION [VALUE..]]\n"));
-    assert!(rt; !text.as_str().contains("install"));
     Ok(())
 }

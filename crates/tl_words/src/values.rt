@@ -1,33 +1,45 @@
 // An action with its options and operands, once its words are known to have no fault.
-ghost use Rattle.std.specs.Prelude.{◌≡◌, IfOk, map, option_map};
+ghost use Rattle.std.specs.Prelude.{◌≡◌, true, IfOk, map, option_map};
+ghost use Rattle.std.specs.List.{All};
+ghost use Rattle.tl_path.specs.Names.{is_name, is_tag};
+ghost use Rattle.tl_action.specs.Forms.{pin_word};
+ghost use Rattle.tl_action.specs.Table.{operands_of};
+ghost use Rattle.tl_words.specs.Fit.{AreFit, AreNames, MayBeginWithName, TagFollows};
 ghost use Rattle.tl_words.specs.Commands.{first_word, may_word, later_words, distinct, number_within, check_of, pins_by, pins_of, action_with};
 ghost use Rattle.tl_words.specs.Settings.{has_option};
-ghost use Rattle.tl_words.specs.Inside.{texts, parts_left, words_left};
+ghost use Rattle.tl_action.specs.Texts.{texts};
+ghost use Rattle.tl_words.specs.Inside.{parts_left, plains_left, words_left};
 
-use crate::action_name::ActionName;
-use crate::command::{Action, PinAction};
 use crate::faults::has_option;
-use crate::lists::{Bytes, Names, Texts};
-use crate::operands::{PinWord, number_within};
 use crate::parts::PartsIter;
 use crate::plains::PlainsIter;
-use crate::table::OptionName;
 use std::alloc::{AllocError, Global};
 use std::collections::BTreeSet;
-use tl_path::{Check, Name, Tag};
+use tl_action::{
+    Action, ActionName, Bytes, Names, OptionName, PinAction, PinWord, Texts, number_within,
+};
+use tl_path::{Check, Name, NameError, Tag, TagError};
 
-// A name. Its form was looked at before, so that only memory can fail here.
 fn read_name(alloc: Global, word: &[u8]) -> Result<Name, AllocError>
+    requires { is_name word.now ≡ true }
     ensures { IfOk result (λ name. name ≡ word.now) }
 {
-    Name::parse(alloc, word).map_err(|_| AllocError)
+    match Name::parse(alloc, word) {
+        Ok(name) => Ok(name),
+        Err(NameError::NoMemory) => Err(AllocError),
+        Err(NameError::BadName { .. }) => unreachable!(),
+    }
 }
 
-// A tag, whose form was looked at before too.
 fn read_tag(alloc: Global, word: &[u8]) -> Result<Tag, AllocError>
+    requires { is_tag word.now ≡ true }
     ensures { IfOk result (λ tag. tag ≡ word.now) }
 {
-    Tag::parse(alloc, word).map_err(|_| AllocError)
+    match Tag::parse(alloc, word) {
+        Ok(tag) => Ok(tag),
+        Err(TagError::NoMemory) => Err(AllocError),
+        Err(TagError::NotTag) => unreachable!(),
+    }
 }
 
 fn read_bytes(alloc: Global, word: &[u8]) -> Result<Bytes, AllocError>
@@ -50,6 +62,7 @@ fn number_or_zero(least: u32, most: u32, word: &[u8]) -> u32
 
 // The next operand as a name, if there is one.
 fn take_name(alloc: Global, operands: &mut PlainsIter<'_>) -> Result<Option<Name>, AllocError>
+    requires { MayBeginWithName (words_left operands.old) }
     ensures name { IfOk result (λ name. name ≡ may_word (words_left operands.old)) }
     ensures left { words_left operands.new ≡ later_words (words_left operands.old) }
 {
@@ -79,6 +92,7 @@ fn distinct_words<'a>(alloc: Global, operands: PlainsIter<'a>) -> Result<Vec<&'a
 }
 
 fn names_of(alloc: Global, words: &[&[u8]]) -> Result<Vec<Name>, AllocError>
+    requires { All (λ word. is_name word.now ≡ true) words.now }
     ensures { IfOk result (λ names. names.items ≡ map (λ word. word.now) words.now) }
 {
     let mut names = Vec::with_capacity(alloc, words.len())?;
@@ -90,6 +104,7 @@ fn names_of(alloc: Global, words: &[&[u8]]) -> Result<Vec<Name>, AllocError>
 
 // Each name once.
 fn read_names(alloc: Global, operands: PlainsIter<'_>) -> Result<Names, AllocError>
+    requires { AreNames (words_left operands) }
     ensures { IfOk result (λ names. names ≡ distinct (words_left operands.entry)) }
 {
     let words = distinct_words(alloc, operands)?;
@@ -130,6 +145,7 @@ fn read_pins(
     with_all: bool,
     operands: PlainsIter<'_>,
 ) -> Result<PinAction, AllocError>
+    requires { TagFollows (pin_word (first_word (words_left operands))) (later_words (words_left operands)) }
     ensures { IfOk result (λ pins. pins ≡ pins_of with_all (words_left operands.entry)) }
 {
     let mut operands = operands;
@@ -143,6 +159,7 @@ fn read_pins_by(
     pin: Option<PinWord>,
     operands: PlainsIter<'_>,
 ) -> Result<PinAction, AllocError>
+    requires { TagFollows pin (words_left operands) }
     ensures { IfOk result (λ pins. pins ≡ pins_by with_all pin (words_left operands.entry)) }
 {
     let mut operands = operands;
@@ -170,6 +187,7 @@ fn read_install(
     parts: PartsIter<'_>,
     operands: PlainsIter<'_>,
 ) -> Result<Action, AllocError>
+    requires { AreNames (words_left operands) }
     ensures { IfOk result (λ read. read ≡ action_with (λ option. has_option option (parts_left parts.entry))
         (words_left operands.entry) ActionName.Install) }
 {
@@ -186,6 +204,7 @@ fn read_update(
     parts: PartsIter<'_>,
     operands: PlainsIter<'_>,
 ) -> Result<Action, AllocError>
+    requires { AreNames (words_left operands) }
     ensures { IfOk result (λ read. read ≡ action_with (λ option. has_option option (parts_left parts.entry))
         (words_left operands.entry) ActionName.Update) }
 {
@@ -199,6 +218,7 @@ fn read_update(
 }
 
 fn read_restore(alloc: Global, operands: PlainsIter<'_>) -> Result<Action, AllocError>
+    requires { MayBeginWithName (words_left operands) }
     ensures { IfOk result (λ read. read ≡ Action.Restore (may_word (words_left operands.entry))
         (option_map (number_within 0 4294967295) (may_word (later_words (words_left operands.entry))))) }
 {
@@ -212,6 +232,7 @@ fn read_restore(alloc: Global, operands: PlainsIter<'_>) -> Result<Action, Alloc
 }
 
 fn read_setting(alloc: Global, operands: PlainsIter<'_>) -> Result<Action, AllocError>
+    requires { MayBeginWithName (words_left operands) }
     ensures { IfOk result (λ read. read ≡ Action.Setting (may_word (words_left operands.entry))
         (later_words (words_left operands.entry))) }
 {
@@ -226,6 +247,7 @@ fn read_remove(
     parts: PartsIter<'_>,
     operands: PlainsIter<'_>,
 ) -> Result<Action, AllocError>
+    requires { AreNames (words_left operands) }
     ensures { IfOk result (λ read. read ≡ action_with (λ option. has_option option (parts_left parts.entry))
         (words_left operands.entry) ActionName.Remove) }
 {
@@ -240,6 +262,7 @@ fn read_backup(
     parts: PartsIter<'_>,
     operands: PlainsIter<'_>,
 ) -> Result<Action, AllocError>
+    requires { AreNames (words_left operands) }
     ensures { IfOk result (λ read. read ≡ action_with (λ option. has_option option (parts_left parts.entry))
         (words_left operands.entry) ActionName.Backup) }
 {
@@ -254,6 +277,7 @@ fn read_pinning(
     parts: PartsIter<'_>,
     operands: PlainsIter<'_>,
 ) -> Result<Action, AllocError>
+    requires { TagFollows (pin_word (first_word (words_left operands))) (later_words (words_left operands)) }
     ensures { IfOk result (λ read. read ≡ action_with (λ option. has_option option (parts_left parts.entry))
         (words_left operands.entry) ActionName.Pinning) }
 {
@@ -271,19 +295,21 @@ fn first_word<'a>(operands: PlainsIter<'a>) -> &'a [u8]
 }
 
 fn first_name(alloc: Global, operands: PlainsIter<'_>) -> Result<Option<Name>, AllocError>
+    requires { MayBeginWithName (words_left operands) }
     ensures { IfOk result (λ name. name ≡ may_word (words_left operands.entry)) }
 {
     let mut operands = operands;
     take_name(alloc, &mut operands)
 }
 
-// The action of a name, with the options among some parts and some operands.
+// The action of a name, with the options among some parts and operands that have no fault.
 pub(crate) fn read_action(
     alloc: Global,
     action: ActionName,
     parts: PartsIter<'_>,
     operands: PlainsIter<'_>,
 ) -> Result<Action, AllocError>
+    requires { AreFit (operands_of action (has_option OptionName.All (parts_left parts))) (plains_left operands) }
     ensures { IfOk result (λ read. read ≡ action_with (λ option. has_option option (parts_left parts.entry))
         (words_left operands.entry) action) }
 {

@@ -1,7 +1,7 @@
 use Rattle.std.proofs.Common.{ap, subst}
 use Rattle.tl_model.specs.Volume.{Volume}
 use Rattle.tl_journal_text.specs.Stand.{tree_of}
-use Rattle.tl_words.specs.Inside.{texts}
+use Rattle.tl_action.specs.Texts.{texts}
 use Rattle.tl_tree.specs.Planted.{database_text}
 use Rattle.tl_tool.specs.Acted.{IsActed}
 use Rattle.tl_tool.specs.Run.{option_run}

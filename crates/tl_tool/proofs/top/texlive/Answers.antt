@@ -1,7 +1,7 @@
 use Rattle.std.proofs.Common.{sym, ap, subst, ◌∙◌}
 use Rattle.tl_model.specs.Joins.{trace_start}
 use Rattle.tl_journal_text.specs.Stand.{stand}
-use Rattle.tl_words.specs.Inside.{texts}
+use Rattle.tl_action.specs.Texts.{texts}
 use Rattle.tl_words.specs.Errors.{IsErrorOf}
 use Rattle.tl_words.specs.Faults.{words_fault}
 use Rattle.tl_words.specs.declared.error.WordsError.{WordsError}

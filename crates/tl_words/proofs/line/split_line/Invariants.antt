@@ -1,6 +1,6 @@
 use Rattle.std.proofs.Common.{◌≡◌, take, map}
 use Rattle.tl_text.specs.Spans.{stretch}
-use Rattle.tl_words.specs.Inside.{texts}
+use Rattle.tl_action.specs.Texts.{texts}
 use Rattle.tl_words.specs.Lines.{unquoted}
 use Rattle.tl_words.proofs.line.split_line.Given as goal
 

@@ -5,7 +5,8 @@ use Rattle.tl_words.specs.Errors.{IsReadError}
 use Rattle.tl_words.specs.Order.{earlier}
 use Rattle.tl_words.specs.Settings.{options_fault}
 use Rattle.tl_words.specs.Faults.{size_fault, action_fault, plains}
-use Rattle.tl_words.specs.Inside.{texts, parts_left}
+use Rattle.tl_action.specs.Texts.{texts}
+use Rattle.tl_words.specs.Inside.{parts_left}
 use Rattle.tl_words.proofs.Drops.{length_texts}
 use Rattle.tl_words.proofs.Places.{options_place, action_place}
 use Rattle.tl_words.proofs.read.command.Goals as goal

@@ -1,6 +1,6 @@
 use Rattle.std.proofs.Common.{sym, subst, List}
 use Rattle.tl_words.specs.Parts.{Part}
-use Rattle.tl_words.specs.Inside.{texts}
+use Rattle.tl_action.specs.Texts.{texts}
 use Rattle.tl_words.specs.Places.{AreWithin}
 use Rattle.tl_words.proofs.Places.{session-within}
 use Rattle.tl_words.proofs.read.read_shell_words_among.Goals as goal

@@ -1,6 +1,6 @@
-use Rattle.tl_words.specs.Table.{built_actions}
+use Rattle.tl_action.specs.Table.{built_actions}
 use Rattle.tl_words.specs.Faults.{program_parts}
-use Rattle.tl_words.specs.Inside.{texts}
+use Rattle.tl_action.specs.Texts.{texts}
 use Rattle.tl_words.proofs.Named.{read_on}
 use Rattle.tl_words.proofs.read.read_words.Goals as goal
 

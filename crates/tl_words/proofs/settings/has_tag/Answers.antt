@@ -1,6 +1,6 @@
 use Rattle.std.proofs.Common.{sym, ◌∙◌, ap, bytes_eq}
 use Rattle.std.specs.List.{list_any}
-use Rattle.tl_words.specs.declared.command.Repository.{Repository}
+use Rattle.tl_action.specs.declared.command.Repository.{Repository}
 use Rattle.tl_words.proofs.Drops.{list_any_map}
 use Rattle.tl_words.proofs.settings.has_tag.Goals as goal
 

@@ -1,5 +1,6 @@
 use Rattle.std.proofs.Common.{◌≡◌, ◌++◌}
-use Rattle.tl_words.specs.Inside.{texts, words_left}
+use Rattle.tl_action.specs.Texts.{texts}
+use Rattle.tl_words.specs.Inside.{words_left}
 use Rattle.tl_words.proofs.values.read_values.Given as goal
 
 abbrev pub invariant-loop-operand : goal.invariant-loop-operand

@@ -1,5 +1,5 @@
 use Rattle.std.proofs.Common.{arith, refl, ◌∙◌, ap, sym, ◌<◌, length, drop, ◌+◌, ◌∷◌}
-use Rattle.tl_words.specs.Inside.{texts}
+use Rattle.tl_action.specs.Texts.{texts}
 use Rattle.tl_words.proofs.Drops.{drop_texts}
 use Rattle.tl_words.proofs.parts.PartsIter.take_word.Goals as goal
 

@@ -1,12 +1,12 @@
 -- The options and actions that the program knows.
 use Rattle.std.specs.Prelude.{ℕ, ◌==◌, Bool, true, false, cond, ◌||◌, not, if◌then◌else◌, List, [], ◌∷◌, codes, Option, find, filter, bytes_eq}
 use Rattle.std.specs.List.{list_any}
-use Rattle.tl_words.specs.declared.table.OptionName.{OptionName}
-use Rattle.tl_words.specs.declared.table.OptionName.TheVariants.{Repository, Workers, Usertree, Usermode, Local, All, Force, Formats, Reinstall, NoDepends, NoDependsAtAll, NoAutoInstall, NoAutoRemove, ReinstallForciblyRemoved}
-use Rattle.tl_words.specs.declared.action_name.ActionName.{ActionName}
-use Rattle.tl_words.specs.declared.action_name.ActionName.TheVariants.{DumpTlpdb, Info, Search, Candidates, Check, Install, Update, Remove, Backup, Restore, Setting, Pinning, Expand, Edit, Build, Mirror, Lsr, Which, Shell, GenerateMaster}
-use Rattle.tl_words.specs.declared.operands.Expected.{Expected}
-use Rattle.tl_words.specs.declared.operands.Expected.TheVariants.{Nothing, MayName, OneName, SomeNames, AnyNames, OneWord, OneCheck, OneComponent, OneCount, MayNameAndRevision, MayNameAndWords, Pins, PinsWithAll}
+use Rattle.tl_action.specs.declared.table.OptionName.{OptionName}
+use Rattle.tl_action.specs.declared.table.OptionName.TheVariants.{Repository, Workers, Usertree, Usermode, Local, All, Force, Formats, Reinstall, NoDepends, NoDependsAtAll, NoAutoInstall, NoAutoRemove, ReinstallForciblyRemoved}
+use Rattle.tl_action.specs.declared.action_name.ActionName.{ActionName}
+use Rattle.tl_action.specs.declared.action_name.ActionName.TheVariants.{DumpTlpdb, Info, Search, Candidates, Check, Install, Update, Remove, Backup, Restore, Setting, Pinning, Expand, Edit, Build, Mirror, Lsr, Which, Shell, GenerateMaster}
+use Rattle.tl_action.specs.declared.expected.Expected.{Expected}
+use Rattle.tl_action.specs.declared.expected.Expected.TheVariants.{Nothing, MayName, OneName, SomeNames, AnyNames, OneWord, OneCheck, OneComponent, OneCount, MayNameAndRevision, MayNameAndWords, Pins, PinsWithAll}
 
 -- an option as it is written after its dashes
 abbrev pub option_text : OptionName → List ℕ
@@ -150,6 +150,18 @@ is_own _ option = false
 -- whether an option goes with an action
 abbrev pub goes_with : ActionName → OptionName → Bool
 goes_with action option = is_common option || is_own action option
+
+-- whether an option may not stand beside `usermode`
+abbrev pub is_unfit_for_users : OptionName → Bool
+is_unfit_for_users NoDependsAtAll = true
+is_unfit_for_users Reinstall = true
+is_unfit_for_users Formats = true
+is_unfit_for_users _ = false
+
+-- whether an option needs `usermode` beside it
+abbrev pub is_for_users : OptionName → Bool
+is_for_users Usertree = true
+is_for_users _ = false
 
 -- whether an action needs the flag `local`
 abbrev pub needs_local : ActionName → Bool

@@ -49,7 +49,7 @@ pub struct Texts {
 
 impl Model for Texts {
     ghost use Rattle.std.specs.Prelude.{List, ℕ};
-    ghost use Rattle.tl_words.specs.Texts.{texts};
+    ghost use Rattle.tl_action.specs.Texts.{texts};
 
     ghost Value = { List (List ℕ) };
 
@@ -58,7 +58,7 @@ impl Model for Texts {
 
 impl Texts {
     ghost use Rattle.std.specs.Prelude.{◌≡◌};
-    ghost use Rattle.tl_words.specs.Texts.{texts};
+    ghost use Rattle.tl_action.specs.Texts.{texts};
 
     /// These texts. No memory.
     pub fn new(items: Vec<Vec<u8>>) -> Texts

@@ -1,7 +1,7 @@
 use Rattle.std.proofs.Common.{◌≡◌, ◌++◌, drop, string_bytes}
 use Rattle.std.specs.List.{flat_map}
-use Rattle.tl_words.specs.Usage.{action_usage}
-use Rattle.tl_words.proofs.help.push_actions.Given as goal
+use Rattle.tl_action.specs.Usage.{action_usage}
+use Rattle.tl_action.proofs.help.push_actions.Given as goal
 
 abbrev pub invariant-loop-action : goal.invariant-loop-action
 invariant-loop-action l =

@@ -1,8 +1,8 @@
 // How the program is called, from the table of actions and options.
 ghost use Rattle.std.specs.Prelude.{◌≡◌, ◌++◌, string_bytes, false, IfOk, OnOk};
 ghost use Rattle.std.specs.List.{flat_map};
-ghost use Rattle.tl_words.specs.Table.{known_options};
-ghost use Rattle.tl_words.specs.Usage.{option_usage, action_usage, usage_text};
+ghost use Rattle.tl_action.specs.Table.{known_options};
+ghost use Rattle.tl_action.specs.Usage.{option_usage, action_usage, usage_text};
 
 use crate::action_name::{ActionName, BUILT};
 use crate::table::{OPTIONS, OptionName};

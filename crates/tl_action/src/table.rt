@@ -1,11 +1,10 @@
 // The options that the program knows.
 ghost use Rattle.std.specs.Prelude.{◌≡◌, bytes_eq, find};
-ghost use Rattle.tl_words.specs.Table.{option_text, takes_value, option_named, is_common, is_same_option};
-ghost use Rattle.tl_words.specs.Table.{is_dump_option, is_install_option, is_update_option, is_remove_option, is_all_option};
-ghost use Rattle.tl_words.specs.Usage.{value_text};
-ghost use Rattle.tl_words.specs.Faults.{is_unfit_for_users, is_for_users};
+ghost use Rattle.tl_action.specs.Table.{option_text, takes_value, option_named, is_common, is_same_option};
+ghost use Rattle.tl_action.specs.Table.{is_dump_option, is_install_option, is_update_option, is_remove_option, is_all_option, is_unfit_for_users, is_for_users};
+ghost use Rattle.tl_action.specs.Usage.{value_text};
 
-/// The options.
+/// The options, each named like the text that stands for it.
 #[derive(Clone, Copy, Debug, PartialEq, Eq)]
 pub enum OptionName {
     Repository,
@@ -64,7 +63,8 @@ impl OptionName {
         }
     }
 
-    pub(crate) fn takes_value(self) -> bool
+    /// Whether it takes a value. No memory.
+    pub fn takes_value(self) -> bool
         ensures { result ≡ takes_value self }
     {
         match self {
@@ -95,8 +95,8 @@ impl OptionName {
         }
     }
 
-    // Whether it is the other one.
-    pub(crate) fn is(self, other: OptionName) -> bool
+    /// Whether it is the other one. No memory.
+    pub fn is(self, other: OptionName) -> bool
         ensures { result ≡ is_same_option self other }
     {
         self.text().as_bytes() == other.text().as_bytes()
@@ -151,8 +151,8 @@ impl OptionName {
         matches!(self, OptionName::All)
     }
 
-    // Whether it may not stand beside `usermode`.
-    pub(crate) fn is_unfit_for_users(self) -> bool
+    /// Whether it may not stand beside `usermode`. No memory.
+    pub fn is_unfit_for_users(self) -> bool
         ensures { result ≡ is_unfit_for_users self }
     {
         match self {
@@ -161,14 +161,15 @@ impl OptionName {
         }
     }
 
-    // Whether it needs `usermode` beside it.
-    pub(crate) fn is_for_users(self) -> bool
+    /// Whether it needs `usermode` beside it. No memory.
+    pub fn is_for_users(self) -> bool
         ensures { result ≡ is_for_users self }
     {
         matches!(self, OptionName::Usertree)
     }
 
-    pub(crate) fn named(in_session: bool, name: &[u8]) -> Option<OptionName>
+    /// The option of a name, if one is known, in a session's line or among the program's words. No memory.
+    pub fn named(in_session: bool, name: &[u8]) -> Option<OptionName>
         ensures { result ≡ option_named in_session name.now }
     {
         if in_session {

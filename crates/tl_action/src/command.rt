@@ -20,7 +20,7 @@ pub struct Repositories {
 
 impl Model for Repositories {
     ghost use Rattle.std.specs.Prelude.{List};
-    ghost use Rattle.tl_words.specs.declared.command.Repository.{Repository};
+    ghost use Rattle.tl_action.specs.declared.command.Repository.{Repository};
 
     ghost Value = { List Repository };
 

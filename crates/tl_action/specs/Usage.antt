@@ -1,11 +1,11 @@
 -- The text that says how the program is called.
 use Rattle.std.specs.Prelude.{ℕ, ◌++◌, false, not, if◌then◌else◌, List, [], codes}
 use Rattle.std.specs.List.{flat_map}
-use Rattle.tl_words.specs.declared.table.OptionName.{OptionName}
-use Rattle.tl_words.specs.declared.table.OptionName.TheVariants as options
-use Rattle.tl_words.specs.declared.action_name.ActionName.{ActionName}
-use Rattle.tl_words.specs.declared.action_name.ActionName.TheVariants.{DumpTlpdb, Info, Search, Candidates, Check, Install, Update, Remove, Backup, Restore, Setting, Pinning, Expand, Edit, Build, Mirror, Lsr, Which, Shell, GenerateMaster}
-use Rattle.tl_words.specs.Table.{option_text, action_text, is_own, needs_local, known_options, built_actions}
+use Rattle.tl_action.specs.declared.table.OptionName.{OptionName}
+use Rattle.tl_action.specs.declared.table.OptionName.TheVariants as options
+use Rattle.tl_action.specs.declared.action_name.ActionName.{ActionName}
+use Rattle.tl_action.specs.declared.action_name.ActionName.TheVariants.{DumpTlpdb, Info, Search, Candidates, Check, Install, Update, Remove, Backup, Restore, Setting, Pinning, Expand, Edit, Build, Mirror, Lsr, Which, Shell, GenerateMaster}
+use Rattle.tl_action.specs.Table.{option_text, action_text, is_own, needs_local, known_options, built_actions}
 
 -- what stands for an option's value
 abbrev pub value_text : OptionName → List ℕ

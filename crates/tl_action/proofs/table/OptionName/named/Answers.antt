@@ -1,5 +1,5 @@
-use Rattle.tl_words.specs.Table.{session_options}
-use Rattle.tl_words.proofs.table.OptionName.named.Goals as goal
+use Rattle.tl_action.specs.Table.{session_options}
+use Rattle.tl_action.proofs.table.OptionName.named.Goals as goal
 
 pub returns-then-in_session : goal.returns-then-in_session
 unfolding session_options

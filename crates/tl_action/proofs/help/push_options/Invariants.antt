@@ -1,7 +1,7 @@
 use Rattle.std.proofs.Common.{◌≡◌, ◌++◌, drop, string_bytes}
 use Rattle.std.specs.List.{flat_map}
-use Rattle.tl_words.specs.Usage.{option_usage}
-use Rattle.tl_words.proofs.help.push_options.Given as goal
+use Rattle.tl_action.specs.Usage.{option_usage}
+use Rattle.tl_action.proofs.help.push_options.Given as goal
 
 abbrev pub invariant-loop-option : goal.invariant-loop-option
 invariant-loop-option l =

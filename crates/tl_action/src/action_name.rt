@@ -1,12 +1,12 @@
 // The actions that the program knows: how each is written, its options and its operands.
 ghost use Rattle.std.specs.Prelude.{◌≡◌};
-ghost use Rattle.tl_words.specs.Usage.{operands_text, effect_text};
-ghost use Rattle.tl_words.specs.Table.{action_text, action_named_among, is_own, goes_with, needs_local, names_expected, operands_of, is_served};
+ghost use Rattle.tl_action.specs.Usage.{operands_text, effect_text};
+ghost use Rattle.tl_action.specs.Table.{action_text, action_named_among, is_own, goes_with, needs_local, names_expected, operands_of, is_served};
 
-use crate::operands::Expected;
+use crate::expected::Expected;
 use crate::table::OptionName;
 
-/// The actions, also those that are off.
+/// The actions, also those that are off. Each but `Setting`, which is `option`, is named like the text that stands for it.
 #[derive(Clone, Copy, Debug, PartialEq, Eq)]
 pub enum ActionName {
     DumpTlpdb,
@@ -31,11 +31,11 @@ pub enum ActionName {
     GenerateMaster,
 }
 
-// The actions that are built.
-pub(crate) const BUILT: [ActionName; 2] = [ActionName::DumpTlpdb, ActionName::Setting];
+/// The actions that are built.
+pub const BUILT: [ActionName; 2] = [ActionName::DumpTlpdb, ActionName::Setting];
 
-// Those that are on in a session's line: all that don't begin a session of their own.
-pub(crate) const BUILT_IN_SESSION: [ActionName; 2] = [ActionName::DumpTlpdb, ActionName::Setting];
+/// Those that are on in a session's line: all that don't begin a session of their own.
+pub const BUILT_IN_SESSION: [ActionName; 2] = [ActionName::DumpTlpdb, ActionName::Setting];
 
 impl ActionName {
     pub(crate) fn text(self) -> &'static str
@@ -65,8 +65,8 @@ impl ActionName {
         }
     }
 
-    // The action of a word, where some are on.
-    pub(crate) fn named(on: &[ActionName], word: &[u8]) -> Option<ActionName>
+    /// The action of a word, where some are on. No memory.
+    pub fn named(on: &[ActionName], word: &[u8]) -> Option<ActionName>
         ensures { result ≡ action_named_among on.now word.now }
     {
         on.iter()
@@ -88,22 +88,22 @@ impl ActionName {
         }
     }
 
-    // Whether the option goes with the action.
-    pub(crate) fn goes_with(self, option: OptionName) -> bool
+    /// Whether the option goes with the action. No memory.
+    pub fn goes_with(self, option: OptionName) -> bool
         ensures { result ≡ goes_with self option }
     {
         option.is_common() || self.is_own(option)
     }
 
-    // Whether it needs the flag `local`.
-    pub(crate) fn needs_local(self) -> bool
+    /// Whether it needs the flag `local`. No memory.
+    pub fn needs_local(self) -> bool
         ensures { result ≡ needs_local self }
     {
         matches!(self, ActionName::DumpTlpdb)
     }
 
-    // Its operands, with the flag `all` or without it.
-    pub(crate) fn operands(self, with_all: bool) -> Expected
+    /// Its operands, with the flag `all` or without it. No memory.
+    pub fn operands(self, with_all: bool) -> Expected
         ensures { result ≡ operands_of self with_all }
     {
         match self {
@@ -172,8 +172,8 @@ impl ActionName {
         }
     }
 
-    // Whether it may be asked for with so many repositories.
-    pub(crate) fn is_served(self, count: usize) -> bool
+    /// Whether it may be asked for with so many repositories. No memory.
+    pub fn is_served(self, count: usize) -> bool
         ensures { result ≡ is_served self count }
     {
         match self {

@@ -1,0 +1,21 @@
+//! Which actions and options there are, which operands an action takes, and the values of a command.
+#![tactic(auto)]
+
+mod action_name;
+mod command;
+mod expected;
+mod form;
+mod help;
+mod lists;
+mod table;
+
+pub use action_name::{ActionName, BUILT, BUILT_IN_SESSION};
+pub use command::{Action, Command, PinAction, Repositories, Repository};
+pub use expected::Expected;
+pub use form::{Form, PinWord, number_within};
+pub use help::usage;
+pub use lists::{Bytes, Names, Texts};
+pub use table::OptionName;
+
+#[cfg(test)]
+mod tests;
