@@ -2,14 +2,14 @@
 use Rattle.std.proofs.Common.{◌≡◌, ℕ, Bool, true, false, cond, List, [], ◌∷◌, ◌++◌, Option, Some, None, length, refl, subst, map, Bor, bytes_eq}
 use Rattle.std.specs.List.{All, list_any}
 use Rattle.std.proofs.lemmas.List.Elements.{All-nil, All-cons, All-head, All-tail, All-push}
-use Rattle.tl_path.specs.Names.{is_name, is_tag}
+use Rattle.tl_path.specs.Names.{is_name}
 use Rattle.tl_action.specs.declared.expected.Expected.{Expected}
-use Rattle.tl_action.specs.declared.expected.Expected.TheVariants.{OneName, SomeNames, AnyNames, Pins, PinsWithAll, TagAndGlobs, TagAndAnyGlobs}
+use Rattle.tl_action.specs.declared.expected.Expected.TheVariants.{SomeNames, AnyNames, MayNameAndRevision, MayRevision, Pins, PinsWithAll, TagAndGlobs, TagAndAnyGlobs}
 use Rattle.tl_action.specs.declared.form.Form.{Form}
 use Rattle.tl_action.specs.declared.form.Form.TheVariants as forms
 use Rattle.tl_action.specs.declared.form.PinWord.{PinWord}
 use Rattle.tl_action.specs.declared.form.PinWord.TheVariants.{Show, Add, Remove}
-use Rattle.tl_action.specs.Forms.{fits, form_of, pin_word, after_pin, after}
+use Rattle.tl_action.specs.Forms.{fits, form_of, is_needed, pin_word, after_pin, after}
 use Rattle.tl_action.specs.Table.{names_expected, operands_of}
 use Rattle.tl_action.specs.declared.action_name.ActionName.TheVariants.{Pinning}
 use Rattle.tl_action.specs.declared.action_name.ActionName.{ActionName}
@@ -21,7 +21,8 @@ use Rattle.tl_words.specs.declared.faults.Fault.{Fault}
 use Rattle.tl_words.specs.Order.{fault, or_else}
 use Rattle.tl_words.specs.Operands.{form_kind, operand_fault, operands_fault}
 use Rattle.tl_words.specs.Commands.{unplaced, first_word, later_words, with_word, distinct_after, distinct}
-use Rattle.tl_words.specs.Fit.{AreFit, AreNames, MayBeginWithName, TagFollows}
+use Rattle.tl_words.specs.Fit.{AreFit, AreNames, MayBeginWithName, MayBeginWithRevision, TagFollows}
+use Rattle.tl_words.specs.declared.error.WordKind.TheVariants as kinds
 
 -- neither of two faults is there
 neither : (a b : Option Fault) → or_else a b ≡ None → (a ≡ None) × (b ≡ None)
@@ -41,16 +42,30 @@ begins expected form end first others is none =
     let formed : operand_fault (Some form) first ≡ None = subst (λ (next : Option Form). operand_fault next first ≡ None) is both.0 in
     (chosen (fits form first.1) (fault (form_kind form) first.0) formed, both.1)
 
--- a name
-pub name-fits : (operands : List (ℕ × List ℕ)) → AreFit OneName operands → is_name (first_word (unplaced operands)) ≡ true
-name-fits [] fit = absurd (cc (fit.1))
-name-fits (first ∷ others) fit = (begins OneName forms.Name fit.0 first others refl fit.1).0
+unneeded : (needed : Bool) (found : Fault) → needed ≡ true → cond needed (Some found) None ≡ None → ⊥
+unneeded true found is none = cc
+unneeded false found is none = cc
+
+-- an operand that has to come
+pub one-fits : (expected : Expected) (form : Form) (operands : List (ℕ × List ℕ)) → form_of expected ≡ Some form → is_needed expected ≡ true
+    → AreFit expected operands → fits form (first_word (unplaced operands)) ≡ true
+one-fits expected form [] is needed fit = absurd (unneeded (is_needed expected) (fault kinds.Operand fit.0) needed fit.1)
+one-fits expected form (first ∷ others) is needed fit = (begins expected form fit.0 first others is fit.1).0
 
 -- a name or none, whatever comes behind it
 pub may_name-fits : (expected : Expected) (operands : List (ℕ × List ℕ)) → form_of expected ≡ Some forms.Name → AreFit expected operands
     → MayBeginWithName (unplaced operands)
 may_name-fits expected [] is fit = tt
 may_name-fits expected (first ∷ others) is fit = (begins expected forms.Name fit.0 first others is fit.1).0
+
+may_revision : (end : ℕ) (operands : List (ℕ × List ℕ)) → operands_fault MayRevision end operands ≡ None → MayBeginWithRevision (unplaced operands)
+may_revision end [] none = tt
+may_revision end (first ∷ others) none = (begins MayRevision forms.Revision end first others refl none).0
+
+-- a revision or none behind a name
+pub revision-fits : (operands : List (ℕ × List ℕ)) → AreFit MayNameAndRevision operands → MayBeginWithRevision (later_words (unplaced operands))
+revision-fits [] fit = tt
+revision-fits (first ∷ others) fit = may_revision fit.0 others (begins MayNameAndRevision forms.Name fit.0 first others refl fit.1).1
 
 any_names : (end : ℕ) (operands : List (ℕ × List ℕ)) → operands_fault AnyNames end operands ≡ None → AreNames (unplaced operands)
 any_names end [] none = All-nil (λ (word : List ℕ). is_name word ≡ true)
@@ -70,22 +85,13 @@ pub names_expected-fit : (with_all : Bool) (operands : List (ℕ × List ℕ)) �
 names_expected-fit true operands fit = any_names fit.0 operands fit.1
 names_expected-fit false operands fit = names-fit operands fit
 
-tag_first : (end : ℕ) (operands : List (ℕ × List ℕ)) → operands_fault TagAndGlobs end operands ≡ None → is_tag (first_word (unplaced operands)) ≡ true
-tag_first end [] none = absurd (cc)
-tag_first end (first ∷ others) none = (begins TagAndGlobs forms.Tag end first others refl none).0
-
-tag_first_with_all : (end : ℕ) (operands : List (ℕ × List ℕ)) → operands_fault TagAndAnyGlobs end operands ≡ None
-    → is_tag (first_word (unplaced operands)) ≡ true
-tag_first_with_all end [] none = absurd (cc)
-tag_first_with_all end (first ∷ others) none = (begins TagAndAnyGlobs forms.Tag end first others refl none).0
-
 tag-follows : (with_all : Bool) (pin : Option PinWord) (end : ℕ) (operands : List (ℕ × List ℕ)) → operands_fault (after_pin with_all pin) end operands ≡ None
     → TagFollows pin (unplaced operands)
 tag-follows with_all None end operands none = tt
 tag-follows with_all (Some Show) end operands none = tt
-tag-follows with_all (Some Add) end operands none = tag_first end operands none
-tag-follows true (Some Remove) end operands none = tag_first_with_all end operands none
-tag-follows false (Some Remove) end operands none = tag_first end operands none
+tag-follows with_all (Some Add) end operands none = one-fits TagAndGlobs forms.Tag operands refl refl (end, none)
+tag-follows true (Some Remove) end operands none = one-fits TagAndAnyGlobs forms.Tag operands refl refl (end, none)
+tag-follows false (Some Remove) end operands none = one-fits TagAndGlobs forms.Tag operands refl refl (end, none)
 
 -- what `pinning` asks for
 pub pins-fit : (with_all : Bool) (operands : List (ℕ × List ℕ)) → AreFit (operands_of Pinning with_all) operands

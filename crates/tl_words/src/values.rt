@@ -2,9 +2,9 @@
 ghost use Rattle.std.specs.Prelude.{◌≡◌, true, IfOk, map, option_map};
 ghost use Rattle.std.specs.List.{All};
 ghost use Rattle.tl_path.specs.Names.{is_name, is_tag};
-ghost use Rattle.tl_action.specs.Forms.{pin_word};
+ghost use Rattle.tl_action.specs.Forms.{is_number_within, fits, pin_word};
 ghost use Rattle.tl_action.specs.Table.{operands_of};
-ghost use Rattle.tl_words.specs.Fit.{AreFit, AreNames, MayBeginWithName, TagFollows};
+ghost use Rattle.tl_words.specs.Fit.{AreFit, AreNames, MayBeginWithName, MayBeginWithRevision, TagFollows};
 ghost use Rattle.tl_words.specs.Commands.{first_word, may_word, later_words, distinct, number_within, check_of, pins_by, pins_of, action_with};
 ghost use Rattle.tl_words.specs.Settings.{has_option};
 ghost use Rattle.tl_action.specs.Texts.{texts};
@@ -16,7 +16,7 @@ use crate::plains::PlainsIter;
 use std::alloc::{AllocError, Global};
 use std::collections::BTreeSet;
 use tl_action::{
-    Action, ActionName, Bytes, Names, OptionName, PinAction, PinWord, Texts, number_within,
+    Action, ActionName, Bytes, Form, Names, OptionName, PinAction, PinWord, Texts, number_within,
 };
 use tl_path::{Check, Name, NameError, Tag, TagError};
 
@@ -49,15 +49,23 @@ fn read_bytes(alloc: Global, word: &[u8]) -> Result<Bytes, AllocError>
 }
 
 fn read_check(word: &[u8]) -> Check
+    requires { fits Form.Check word.now ≡ true }
     ensures { result ≡ check_of word.now }
 {
-    Check::read(word).unwrap_or(Check::All)
+    match Check::read(word) {
+        Some(check) => check,
+        None => unreachable!(),
+    }
 }
 
-fn number_or_zero(least: u32, most: u32, word: &[u8]) -> u32
+fn read_number(least: u32, most: u32, word: &[u8]) -> u32
+    requires { is_number_within least most word.now ≡ true }
     ensures { result ≡ number_within least most word.now }
 {
-    number_within(least, most, word).unwrap_or(0)
+    match number_within(least, most, word) {
+        Some(number) => number,
+        None => unreachable!(),
+    }
 }
 
 // The next operand as a name, if there is one.
@@ -218,14 +226,15 @@ fn read_update(
 }
 
 fn read_restore(alloc: Global, operands: PlainsIter<'_>) -> Result<Action, AllocError>
-    requires { MayBeginWithName (words_left operands) }
+    requires name { MayBeginWithName (words_left operands) }
+    requires revision { MayBeginWithRevision (later_words (words_left operands)) }
     ensures { IfOk result (λ read. read ≡ Action.Restore (may_word (words_left operands.entry))
         (option_map (number_within 0 4294967295) (may_word (later_words (words_left operands.entry))))) }
 {
     let mut operands = operands;
     let name = take_name(alloc, &mut operands)?;
     let revision = match operands.next() {
-        Some(placed) => Some(number_or_zero(0, u32::MAX, placed.word)),
+        Some(placed) => Some(read_number(0, u32::MAX, placed.word)),
         None => None,
     };
     Ok(Action::Restore { name, revision })
@@ -349,7 +358,7 @@ pub(crate) fn read_action(
         }),
         ActionName::Shell => Ok(Action::Shell),
         ActionName::GenerateMaster => Ok(Action::GenerateMaster {
-            count: number_or_zero(1, 1000, first),
+            count: read_number(1, 1000, first),
         }),
     }
 }

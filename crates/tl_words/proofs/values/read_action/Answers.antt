@@ -1,14 +1,16 @@
 use Rattle.std.proofs.Common.{◌≡◌, ℕ, Bool, true, List, refl, sym, subst}
 use Rattle.tl_path.specs.Names.{is_name}
 use Rattle.tl_action.specs.declared.action_name.ActionName.{ActionName}
-use Rattle.tl_action.specs.declared.action_name.ActionName.TheVariants.{Info, Candidates, Install, Update, Remove, Backup, Restore, Setting, Pinning, Expand}
+use Rattle.tl_action.specs.declared.action_name.ActionName.TheVariants.{Info, Candidates, Check, Install, Update, Remove, Backup, Restore, Setting, Pinning, Expand, GenerateMaster}
 use Rattle.tl_action.specs.declared.table.OptionName.TheVariants.{All}
-use Rattle.tl_action.specs.declared.expected.Expected.TheVariants.{MayName, MayNameAndRevision, MayNameAndWords}
+use Rattle.tl_action.specs.declared.expected.Expected.TheVariants.{MayName, OneName, OneCheck, OneCount, MayNameAndRevision, MayNameAndWords}
+use Rattle.tl_action.specs.declared.form.Form.TheVariants as forms
+use Rattle.tl_action.specs.Forms.{is_number_within, fits}
 use Rattle.tl_action.specs.Table.{operands_of}
 use Rattle.tl_words.specs.Settings.{has_option}
 use Rattle.tl_words.specs.Inside.{parts_left, plains_left}
 use Rattle.tl_words.specs.Fit.{AreFit}
-use Rattle.tl_words.proofs.Fit.{name-fits, may_name-fits, names-fit, names_expected-fit, pins-fit}
+use Rattle.tl_words.proofs.Fit.{one-fits, may_name-fits, revision-fits, names-fit, names_expected-fit, pins-fit}
 use Rattle.tl_words.proofs.values.read_action.Goals as goal
 
 -- the operands of this action have no fault
@@ -24,8 +26,14 @@ first_name-requires c =
 pub read_name-requires : goal.read_name-requires
 read_name-requires c =
     subst (λ (word : List ℕ). is_name word ≡ true) (sym c.first_word-first.ensures)
-    (name-fits (plains_left c.args.operands)
+    (one-fits OneName forms.Name (plains_left c.args.operands) refl refl
     (fit_for c.args.action Candidates (has_option All (parts_left c.args.parts)) (plains_left c.args.operands) c.in-Candidates.is c.requires))
+
+pub read_check-requires : goal.read_check-requires
+read_check-requires c =
+    subst (λ (word : List ℕ). fits forms.Check word ≡ true) (sym c.first_word-first.ensures)
+    (one-fits OneCheck forms.Check (plains_left c.args.operands) refl refl
+    (fit_for c.args.action Check (has_option All (parts_left c.args.parts)) (plains_left c.args.operands) c.in-Check.is c.requires))
 
 pub read_install-requires : goal.read_install-requires
 read_install-requires c =
@@ -49,8 +57,11 @@ read_backup-requires c =
 
 pub read_restore-requires : goal.read_restore-requires
 read_restore-requires c =
-    may_name-fits MayNameAndRevision (plains_left c.args.operands) refl
-    (fit_for c.args.action Restore (has_option All (parts_left c.args.parts)) (plains_left c.args.operands) c.in-Restore.is c.requires)
+    let fit : AreFit MayNameAndRevision (plains_left c.args.operands)
+    = fit_for c.args.action Restore (has_option All (parts_left c.args.parts)) (plains_left c.args.operands) c.in-Restore.is c.requires in record {
+      name = may_name-fits MayNameAndRevision (plains_left c.args.operands) refl fit;
+      revision = revision-fits (plains_left c.args.operands) fit;
+    }
 
 pub read_setting-requires : goal.read_setting-requires
 read_setting-requires c =
@@ -65,5 +76,11 @@ read_pinning-requires c =
 pub read_name-requires-in-Expand : goal.read_name-requires-in-Expand
 read_name-requires-in-Expand c =
     subst (λ (word : List ℕ). is_name word ≡ true) (sym c.first_word-first.ensures)
-    (name-fits (plains_left c.args.operands)
+    (one-fits OneName forms.Name (plains_left c.args.operands) refl refl
     (fit_for c.args.action Expand (has_option All (parts_left c.args.parts)) (plains_left c.args.operands) c.in-Expand.is c.requires))
+
+pub read_number-requires : goal.read_number-requires
+read_number-requires c =
+    subst (λ (word : List ℕ). is_number_within 1 1000 word ≡ true) (sym c.first_word-first.ensures)
+    (one-fits OneCount forms.Count (plains_left c.args.operands) refl refl
+    (fit_for c.args.action GenerateMaster (has_option All (parts_left c.args.parts)) (plains_left c.args.operands) c.in-GenerateMaster.is c.requires))
