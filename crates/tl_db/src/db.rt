@@ -59,6 +59,13 @@ impl Db {
         }
     }
 
+    pub(crate) fn of_rising(objects: Vec<Object>) -> Db
+        requires { is_rising (λ o. o.name) objects.items ≡ true }
+        ensures { result ≡ objects.items }
+    {
+        Db { objects }
+    }
+
     /// How many entries it has. Takes no memory.
     pub fn len(&self) -> usize
         ensures { result ≡ length self.now }

@@ -9,6 +9,8 @@ mod limit_tests;
 #[cfg(test)]
 mod option_tests;
 mod options;
+#[cfg(test)]
+mod order_tests;
 mod read;
 mod repo;
 #[cfg(test)]

@@ -6,6 +6,7 @@ ghost use Rattle.tl_db.specs.Reading.{db_of, IsRead, IsDbError};
 use crate::db::Db;
 use crate::fault::{DbError, What};
 use std::alloc::Global;
+use tl_entry::Gathered;
 use tl_object::{LineKind, ObjectError, next_entry, read_entry, read_entry_name};
 
 const MOST_BYTES: u64 = 268_435_456;
@@ -16,7 +17,7 @@ fn read_all(alloc: Global, text: &[u8]) -> Result<Db, ObjectError>
     requires { length text.now < 2 ^ 32 }
     ensures { GivesAt result (db_of text.now) }
 {
-    let mut db = Db::new(alloc);
+    let mut objects = Gathered::new(alloc);
     let mut number = 0;
     let mut rest = text;
     while let Some((before, start)) = next_entry(number, rest) {
@@ -24,7 +25,7 @@ fn read_all(alloc: Global, text: &[u8]) -> Result<Db, ObjectError>
             Ok(named) => named,
             Err(fault) => return Err(fault),
         };
-        if db.has(named.name.bytes()) {
+        if objects.has(named.name.bytes()) {
             return Err(ObjectError::BadObject {
                 line: named.line,
                 kind: LineKind::Repeated,
@@ -34,11 +35,11 @@ fn read_all(alloc: Global, text: &[u8]) -> Result<Db, ObjectError>
             Ok(entry) => entry,
             Err(fault) => return Err(fault),
         };
-        db.add(entry.object)?;
+        objects.put(alloc, entry.object)?;
         number = entry.number;
         rest = entry.rest;
     }
-    Ok(db)
+    Ok(Db::of_rising(objects.finish()?))
 }
 
 /// The database of a text: entries that empty lines separate. Stretches that have only lines that begin with `#` are no

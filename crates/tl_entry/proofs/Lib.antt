@@ -1,2 +1,4 @@
 pub mod RisingLemmas
 pub mod SetLemmas
+pub mod GatherLemmas
+pub mod OrderLemmas

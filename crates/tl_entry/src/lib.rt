@@ -4,12 +4,15 @@
 mod copy;
 mod file_paths;
 mod form;
+mod gathered;
+mod late;
 mod lists;
 mod object;
 mod rising;
 
 pub use copy::{Copied, copies};
 pub use form::is_fact_key;
+pub use gathered::Gathered;
 pub use lists::{BinList, DocFileList, Facts, Paths, Texts};
 pub use object::{BinFiles, Container, DocFile, DocFiles, Fact, Files, Object};
 pub use rising::{Keyed, place_for};

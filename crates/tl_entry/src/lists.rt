@@ -1,9 +1,9 @@
 //! The lists that an entry is made of.
-ghost use Rattle.std.specs.Prelude.{◌≡◌, ◌++◌, ◌∷◌, [], true, false, List, IfOk, OnOk, MatchBool, map};
-ghost use Rattle.tl_entry.specs.Rising.{is_rising, has_key, insert_by};
+ghost use Rattle.std.specs.Prelude.{◌≡◌, ◌++◌, ◌∷◌, [], true, IfOk, OnOk, map};
+ghost use Rattle.tl_entry.specs.Rising.{is_rising};
 
 use crate::object::{BinFiles, DocFile, Fact, Object};
-use crate::rising::{Keyed, place_for};
+use crate::rising::Keyed;
 use std::alloc::{AllocError, Global};
 use std::marker::Model;
 use tl_path::Path;
@@ -253,21 +253,6 @@ impl Keyed for BinFiles {
 }
 
 impl DocFileList {
-    /// Puts a file in its place, unless its path is there already: then the answer is `false`.
-    pub fn add(&mut self, file: DocFile) -> Result<bool, AllocError>
-        ensures { IfOk result (λ added. MatchBool added
-            ((has_key (λ f. f.path) file.path self.old ≡ false) × (self.new ≡ insert_by (λ f. f.path) file self.old))
-            (has_key (λ f. f.path) file.path self.old ≡ true)) }
-    {
-        match place_for(self.items.as_slice(), file.key()) {
-            Some(at) => {
-                self.items.insert(at, file)?;
-                Ok(true)
-            }
-            None => Ok(false),
-        }
-    }
-
     /// The paths alone.
     pub fn into_paths(self, alloc: Global) -> Result<Paths, AllocError>
         ensures { IfOk result (λ paths. paths ≡ map (λ f. f.path) self) }
@@ -290,28 +275,4 @@ fn paths_of(alloc: Global, files: Vec<DocFile>) -> Result<Vec<Path>, AllocError>
         paths.push(path)?;
     }
     Ok(paths)
-}
-
-impl BinList {
-    /// Whether a section is for this platform. Takes no memory.
-    pub fn has(&self, platform: &[u8]) -> bool
-        ensures { result ≡ has_key (λ b. b.platform) platform.now self.now }
-    {
-        match place_for(self.items.as_slice(), platform) {
-            Some(_) => false,
-            None => true,
-        }
-    }
-
-    /// Puts a section in its place; none is for its platform yet.
-    pub fn put(&mut self, bin: BinFiles) -> Result<(), AllocError>
-        requires { has_key (λ b. b.platform) bin.platform self.old ≡ false }
-        ensures { OnOk result (self.new ≡ insert_by (λ b. b.platform) bin self.old) }
-    {
-        let Some(at) = place_for(self.items.as_slice(), bin.key()) else {
-            unreachable!()
-        };
-        self.items.insert(at, bin)?;
-        Ok(())
-    }
 }

@@ -7,7 +7,8 @@ use crate::head::Head;
 use crate::key::Part;
 use std::alloc::{AllocError, Global};
 use tl_entry::{
-    BinFiles, BinList, Container, DocFileList, DocFiles, Facts, Files, Object, Paths, Texts,
+    BinFiles, BinList, Container, DocFileList, DocFiles, Facts, Files, Gathered, Object, Paths,
+    Texts,
 };
 use tl_path::{Category, Name, Platform};
 use tl_text::Text;
@@ -31,7 +32,7 @@ pub struct Builder {
     pub doc: Option<DocFiles>,
     pub src: Option<Files>,
     pub run: Option<Files>,
-    pub bin: BinList,
+    pub bin: Gathered<BinFiles>,
     pub catalogue_facts: Facts,
 }
 
@@ -67,7 +68,7 @@ impl Builder {
             doc: None,
             src: None,
             run: None,
-            bin: BinList::new(Vec::new(alloc)),
+            bin: Gathered::new(alloc),
             catalogue_facts: Facts::new(Vec::new(alloc)),
         }
     }
@@ -114,11 +115,12 @@ impl Builder {
         ensures { OnOk result (self.new ≡ put self.old (heads.Binfiles platform blocks) files) }
     {
         let paths = files.into_paths(alloc)?;
-        self.bin.put(BinFiles {
+        let bin = BinFiles {
             platform,
             blocks,
             paths,
-        })?;
+        };
+        self.bin.put(alloc, bin)?;
         Ok(())
     }
 
@@ -196,10 +198,11 @@ impl Builder {
     }
 
     /// The entry of these parts.
-    pub(crate) fn finish(self, alloc: Global) -> Object
-        ensures { result ≡ finished self }
+    pub(crate) fn finish(self, alloc: Global) -> Result<Object, AllocError>
+        ensures { IfOk result (λ object. object ≡ finished self) }
     {
-        Object {
+        let bin = BinList::new(self.bin.finish()?);
+        Ok(Object {
             name: self.name,
             category: self.category.unwrap_or(Category::Package),
             revision: self.revision.unwrap_or(0),
@@ -216,9 +219,9 @@ impl Builder {
             doc: doc_or_none(alloc, self.doc),
             src: files_or_none(alloc, self.src),
             run: files_or_none(alloc, self.run),
-            bin: self.bin,
+            bin,
             catalogue_facts: self.catalogue_facts,
-        }
+        })
     }
 }
 

@@ -8,6 +8,8 @@ mod fault;
 mod file;
 mod head;
 mod key;
+#[cfg(test)]
+mod order_tests;
 mod read;
 mod source;
 #[cfg(test)]

@@ -14,7 +14,7 @@ use crate::fault::{LineFault, LineKind, ObjectError};
 use crate::head::{Head, Line, Place, line_of, place_of};
 use crate::source::{cut_at, next_entry_line};
 use std::alloc::Global;
-use tl_entry::{DocFile, DocFileList, Object};
+use tl_entry::{DocFile, DocFileList, Gathered, Object};
 use tl_path::Name;
 
 /// The files of the lines that follow a line, and the text behind them.
@@ -34,7 +34,12 @@ fn starts_file(line: &[u8]) -> bool
     }
 }
 
-fn put_file(place: Place, files: &mut DocFileList, file: DocFile) -> Result<(), LineFault>
+fn put_file(
+    alloc: Global,
+    place: Place,
+    files: &mut Gathered<DocFile>,
+    file: DocFile,
+) -> Result<(), LineFault>
     ensures { MatchResult result (λ _. placed place files.old file ≡ Ok files.new) (λ e. Fails e (placed place files.old file)) }
 {
     let is_marked = file.details.is_some() || file.language.is_some();
@@ -43,7 +48,7 @@ fn put_file(place: Place, files: &mut DocFileList, file: DocFile) -> Result<(), 
         Place::Plain if is_marked => return Err(LineFault::Bad(LineKind::File)),
         _ => {}
     }
-    if files.add(file)? {
+    if files.add(alloc, file)? {
         Ok(())
     } else {
         Err(LineFault::Bad(LineKind::Repeated))
@@ -53,14 +58,14 @@ fn put_file(place: Place, files: &mut DocFileList, file: DocFile) -> Result<(), 
 fn read_file(
     alloc: Global,
     place: Place,
-    files: &mut DocFileList,
+    files: &mut Gathered<DocFile>,
     line: &[u8],
 ) -> Result<(), LineFault>
     requires { is_file_line line.now ≡ true }
     ensures { MatchResult result (λ _. file_step place files.old line.now ≡ Ok files.new) (λ e. Fails e (file_step place files.old line.now)) }
 {
     match line_of(alloc, line)? {
-        Line::File(file) => put_file(place, files, file),
+        Line::File(file) => put_file(alloc, place, files, file),
         Line::Head(_) => unreachable!(),
     }
 }
@@ -82,7 +87,7 @@ pub(crate) fn read_files(
     ensures fault { IfErr result (λ e. (groups : List Group) (head : Head) → place_of head ≡ place
         → FailsAt e (reading (groups ++ record { head = head; files = [] } ∷ []) (entry_lines stops (content number text.now)))) }
 {
-    let mut files = DocFileList::new(Vec::new(alloc));
+    let mut files = Gathered::new(alloc);
     let mut number = number;
     let mut rest = text;
     while let Some(found) = next_entry_line(stops, number, rest) {
@@ -98,7 +103,7 @@ pub(crate) fn read_files(
         }
     }
     Ok(Section {
-        files,
+        files: DocFileList::new(files.finish()?),
         number,
         rest,
     })
@@ -227,7 +232,7 @@ pub fn read_entry(alloc: Global, before: u32, text: &[u8]) -> Result<Entry<'_>, 
         Ok(parts) => parts,
         Err(fault) => return Err(fault),
     };
-    let object = parts.builder.finish(alloc);
+    let object = parts.builder.finish(alloc)?;
     Ok(Entry {
         object,
         number: parts.number,
@@ -273,5 +278,6 @@ pub fn read_object(alloc: Global, text: &[u8]) -> Result<Object, ObjectError>
         Ok(parts) => parts,
         Err(fault) => return Err(fault),
     };
-    Ok(parts.builder.finish(alloc))
+    let object = parts.builder.finish(alloc)?;
+    Ok(object)
 }

@@ -5,7 +5,7 @@ use Rattle.tl_db.proofs.read.read_all.Given as goal
 
 abbrev pub invariant-loop-before : goal.invariant-loop-before
 invariant-loop-before l = record {
-  same : with_stretches l.db (stretches (content l.number l.rest)) ≡ db_of l.fn.text;
+  same : with_stretches l.objects (stretches (content l.number l.rest)) ≡ db_of l.fn.text;
   fits : l.number + length l.rest < 2 ^ 32;
 }
 

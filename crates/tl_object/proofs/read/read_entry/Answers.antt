@@ -10,4 +10,4 @@ returns-in-Err-clause-fault c = object-fails c.in-Err.fault (entry_groups (entry
 pub returns-clause-object : goal.returns-clause-object
 returns-clause-object c =
     let parts = c.in-Ok.ensures.parts in
-    object-read (entry_groups (entry_lines true (content c.args.before c.args.text.now))) c.in-Ok.parts.builder parts.0 c.finish-object.result parts.1.0 parts.1.1 c.finish-object.ensures
+    object-read (entry_groups (entry_lines true (content c.args.before c.args.text.now))) c.in-Ok.parts.builder parts.0 c.in_ok-object.object parts.1.0 parts.1.1 c.in_ok-object.ensures

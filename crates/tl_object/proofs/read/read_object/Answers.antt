@@ -10,4 +10,4 @@ returns-in-Err c = object-fails c.in-Err.fault (entry_groups (entry_lines false 
 pub returns : goal.returns
 returns c =
     let parts = c.in-Ok.ensures.parts in
-    object-read (entry_groups (entry_lines false (content 0 c.args.text.now))) c.in-Ok.parts.builder parts.0 c.finish.result parts.1.0 parts.1.1 c.finish.ensures
+    object-read (entry_groups (entry_lines false (content 0 c.args.text.now))) c.in-Ok.parts.builder parts.0 c.in_ok-object.object parts.1.0 parts.1.1 c.in_ok-object.ensures
