@@ -19,7 +19,7 @@ pub struct Db {
 }
 
 // Where the entry with this name stands among entries that rise by their names.
-fn place_of(objects: &[Object], name: &[u8]) -> Option<usize>
+pub(crate) fn place_of(objects: &[Object], name: &[u8]) -> Option<usize>
     requires { is_rising (λ o. o.name) objects.now ≡ true }
     ensures { MatchOption result (has_key (λ o. o.name) name.now objects.now ≡ false) (λ at. (at < length objects.now)
         × ((d : Object) → same_name (slice_index_or objects.now at d).name name.now ≡ true)) }

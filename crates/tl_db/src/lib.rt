@@ -4,6 +4,9 @@
 mod db;
 mod fault;
 mod installation;
+mod kept;
+#[cfg(test)]
+mod kept_tests;
 #[cfg(test)]
 mod limit_tests;
 #[cfg(test)]
@@ -19,6 +22,7 @@ mod write;
 
 pub use db::{Db, Entries};
 pub use fault::{DbError, What};
+pub use kept::KeptDb;
 pub use options::{OptionError, TreeOption};
 pub use read::read_db;
 pub use repo::Repo;

@@ -9,7 +9,8 @@ use crate::db::Db;
 use std::alloc::{AllocError, Global};
 use tl_object::{Object, append_object};
 
-fn append_entry(out: &mut Vec<u8>, object: &Object) -> Result<(), AllocError>
+// Writes an entry and the empty line behind it.
+pub(crate) fn append_entry(out: &mut Vec<u8>, object: &Object) -> Result<(), AllocError>
     ensures written { OnOk result (out.new.items ≡ out.old.items ++ entry_text object.now) }
     ensures plain { OnOk result (IsPlain out.old.items → IsPlain out.new.items) }
     ensures again { OnOk result (ReadsAgain object.now) }

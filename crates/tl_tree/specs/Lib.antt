@@ -1,5 +1,6 @@
 pub mod Answers
 pub mod Changes
+pub mod Held
 pub mod Names
 pub mod Nexts
 pub mod Owners

@@ -6,10 +6,11 @@ ghost use Rattle.tl_tree.specs.Answers.{IsWithin, IsPlanError, HasLimit};
 
 use crate::change::Part;
 use crate::error::StepError;
+use crate::held::Entries;
 use crate::leaving::leaving;
 use std::alloc::{AllocError, Global};
 use tl_config::{fmtutil, language_dat, language_def, language_lua, updmap};
-use tl_db::{Db, What, write_db};
+use tl_db::{Db, KeptDb, What};
 use tl_file::{Bytes, FileBytes};
 use tl_object::Object;
 use tl_path::{Path, PathRef};
@@ -34,13 +35,13 @@ fn has_entries(parts: &[Part]) -> bool
     parts.iter().any(|part| is_entry(part))
 }
 
-fn put_entry(alloc: Global, db: &mut Db, entry: &Object) -> Result<(), AllocError>
+fn put_entry(alloc: Global, db: &mut KeptDb, entry: &Object) -> Result<(), AllocError>
     ensures { OnOk result (db.new ≡ with_entry entry.now db.old) }
 {
-    db.with(entry.copy(alloc)?)
+    db.with(alloc, entry.copy(alloc)?)
 }
 
-fn change_entry(alloc: Global, db: &mut Db, part: &Part) -> Result<(), AllocError>
+fn change_entry(alloc: Global, db: &mut KeptDb, part: &Part) -> Result<(), AllocError>
     ensures { OnOk result (db.new ≡ entries_by part.now db.old) }
 {
     match part {
@@ -54,7 +55,7 @@ fn change_entry(alloc: Global, db: &mut Db, part: &Part) -> Result<(), AllocErro
     }
 }
 
-fn change_entries(alloc: Global, db: &mut Db, parts: &[Part]) -> Result<(), AllocError>
+fn change_entries(alloc: Global, db: &mut KeptDb, parts: &[Part]) -> Result<(), AllocError>
     ensures { OnOk result (db.new ≡ entries_after parts.now db.old) }
 {
     for part in parts {
@@ -100,18 +101,18 @@ fn made(alloc: Global, db: &Db, text: Vec<u8>) -> Result<Vec<FileBytes>, AllocEr
 }
 
 // The text of a database within its limits.
-fn limited_text(alloc: Global, db: &Db) -> Result<Vec<u8>, StepError>
-    ensures text { IfOk result (λ text. text.items ≡ db_text db.now) }
-    ensures within { IfOk result (λ _. IsWithin db.now) }
-    ensures error { IfErr result (IsPlanError db.now) }
+fn limited_text(alloc: Global, kept: &KeptDb) -> Result<Vec<u8>, StepError>
+    ensures text { IfOk result (λ text. text.items ≡ db_text kept.now) }
+    ensures within { IfOk result (λ _. IsWithin kept.now) }
+    ensures error { IfErr result (IsPlanError kept.now) }
 {
-    if db.len() as u64 > MOST_PACKAGES {
+    if kept.db().len() as u64 > MOST_PACKAGES {
         return Err(StepError::TooLarge {
             what: What::Packages,
             limit: MOST_PACKAGES,
         });
     }
-    let text = write_db(alloc, db)?;
+    let text = kept.text(alloc)?;
     if text.len() as u64 > MOST_BYTES {
         return Err(StepError::TooLarge {
             what: What::Database,
@@ -121,18 +122,23 @@ fn limited_text(alloc: Global, db: &Db) -> Result<Vec<u8>, StepError>
     Ok(text)
 }
 
-// The files that are made from the entries after a change, if it speaks of an entry.
-fn made_files(alloc: Global, db: &Db, parts: &[Part]) -> Result<Vec<FileBytes>, StepError>
-    ensures files { IfOk result (λ files. map named_bytes files.items ≡ (if has_entries parts.now then made db.now else [])) }
-    ensures within { IfOk result (λ _. has_entries parts.now ≡ true → IsWithin db.now) }
-    ensures error { IfErr result (IsPlanError db.now) }
-    ensures speaks { IfErr result (λ error. HasLimit error → has_entries parts.now ≡ true) }
+// The files that are made from the entries after a change that speaks of one.
+fn made_files(alloc: Global, kept: &KeptDb) -> Result<Vec<FileBytes>, StepError>
+    ensures files { IfOk result (λ files. map named_bytes files.items ≡ made kept.now) }
+    ensures within { IfOk result (λ _. IsWithin kept.now) }
+    ensures error { IfErr result (IsPlanError kept.now) }
 {
-    if !has_entries(parts) {
-        return Ok(Vec::new(alloc));
-    }
-    let text = limited_text(alloc, db)?;
-    Ok(made(alloc, db, text)?)
+    let text = limited_text(alloc, kept)?;
+    Ok(made(alloc, kept.db(), text)?)
+}
+
+// The entries after a change, with their texts.
+fn entries_after(alloc: Global, entries: Entries, parts: &[Part]) -> Result<KeptDb, AllocError>
+    ensures { IfOk result (λ kept. kept ≡ entries_after parts.now entries) }
+{
+    let mut kept = entries.with_texts(alloc)?;
+    change_entries(alloc, &mut kept, parts)?;
+    Ok(kept)
 }
 
 /// What a change takes from the tree and what it makes, before any call of the host.
@@ -142,19 +148,33 @@ pub struct Plan {
     pub names: Vec<Path>,
     /// The database and the five files made from it, or nothing.
     pub files: Vec<FileBytes>,
+    /// The entries after the change.
+    pub entries: Entries,
 }
 
-/// The plan of a change. The entries are those after it then. Where it fails they are of no use.
-pub fn plan_change(alloc: Global, db: &mut Db, parts: &[Part]) -> Result<Plan, StepError>
-    ensures leaving { IfOk result (λ plan. plan.names.items ≡ leaving db.old parts.now) }
-    ensures made { IfOk result (λ plan. map named_bytes plan.files.items ≡ (if has_entries parts.now then made db.new else [])) }
-    ensures entries { IfOk result (λ _. db.new ≡ entries_after parts.now db.old) }
-    ensures within { IfOk result (λ _. has_entries parts.now ≡ true → IsWithin db.new) }
-    ensures error { IfErr result (IsPlanError (entries_after parts.now db.old)) }
+/// The plan of a change. Where it speaks of an entry, the text of each entry that it speaks of is made, and the others are
+/// copied, if they are kept; where it speaks of none, no text is made.
+pub fn plan_change(alloc: Global, entries: Entries, parts: &[Part]) -> Result<Plan, StepError>
+    ensures leaving { IfOk result (λ plan. plan.names.items ≡ leaving entries parts.now) }
+    ensures made { IfOk result (λ plan. map named_bytes plan.files.items ≡ (if has_entries parts.now then made plan.entries else [])) }
+    ensures after { IfOk result (λ plan. plan.entries ≡ entries_after parts.now entries) }
+    ensures within { IfOk result (λ plan. has_entries parts.now ≡ true → IsWithin plan.entries) }
+    ensures error { IfErr result (IsPlanError (entries_after parts.now entries)) }
     ensures speaks { IfErr result (λ error. HasLimit error → has_entries parts.now ≡ true) }
 {
-    let names = leaving(alloc, db, parts)?;
-    change_entries(alloc, db, parts)?;
-    let files = made_files(alloc, db, parts)?;
-    Ok(Plan { names, files })
+    let names = leaving(alloc, entries.db(), parts)?;
+    if !has_entries(parts) {
+        return Ok(Plan {
+            names,
+            files: Vec::new(alloc),
+            entries,
+        });
+    }
+    let kept = entries_after(alloc, entries, parts)?;
+    let files = made_files(alloc, &kept)?;
+    Ok(Plan {
+        names,
+        files,
+        entries: Entries::kept(kept),
+    })
 }

@@ -8,6 +8,7 @@ mod arrange;
 mod change;
 mod entries;
 mod error;
+mod held;
 mod leaving;
 mod load;
 mod look;

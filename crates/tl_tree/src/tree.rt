@@ -13,8 +13,9 @@ ghost use Rattle.tl_tree.specs.declared.error.StepError.TheVariants.{HostFault a
 
 use crate::arrange::arrange;
 use crate::change::Change;
-use crate::entries::plan_change;
+use crate::entries::{Plan, plan_change};
 use crate::error::{StepError, TreeError};
+use crate::held::Entries;
 use crate::load::read_entries;
 use crate::own::owner;
 use crate::stage::carry_out;
@@ -29,7 +30,7 @@ use tl_path::{Name, Path};
 #[derive(Drop)]
 pub struct Tree<H: Host> {
     pub(crate) journal: Clean<H>,
-    pub(crate) db: Db,
+    entries: Entries,
 }
 
 impl<H: Host> Model for Tree<H> {
@@ -40,7 +41,7 @@ impl<H: Host> Model for Tree<H> {
 
     ghost coded = { planted_code object.the_row.coded };
 
-    ghost view = { λ t. record { seen = t.journal; db = t.db } };
+    ghost view = { λ t. record { seen = t.journal; db = t.entries } };
 }
 
 impl<H: Host> Tree<H> {
@@ -58,7 +59,10 @@ impl<H: Host> Tree<H> {
     {
         let mut journal = journal;
         match read_entries(alloc, &mut journal) {
-            Ok(db) => Ok(Tree { journal, db }),
+            Ok(db) => Ok(Tree {
+                journal,
+                entries: Entries::read(db),
+            }),
             Err(fault) => Err(Lost {
                 host: journal.into_host(),
                 fault,
@@ -70,14 +74,14 @@ impl<H: Host> Tree<H> {
     pub fn db(&self) -> &Db
         ensures { result.now ≡ self.now.db }
     {
-        &self.db
+        self.entries.db()
     }
 
     /// The least name of an entry among whose files the path is; `None` exactly where no entry has it. Takes no memory.
     pub fn owner(&self, path: &Path) -> Option<&Name>
         ensures { option_copied result ≡ owner_of path.now self.now.db }
     {
-        owner(&self.db, path)
+        owner(self.entries.db(), path)
     }
 
     /// Gives the volume back as it is, at rest.
@@ -125,17 +129,22 @@ impl<H: Host> Tree<H> {
         ensures cause { IfErr result (λ lost. lost.fault ≡ StepFault → Rose self.seen.faults (H.seen lost.host).faults) }
     {
         let journal = self.journal;
-        let mut db = self.db;
+        let entries = self.entries;
         journal.stands();
         let parts = change.parts.as_slice();
-        let plan = match plan_change(alloc, &mut db, parts) {
+        let plan = match plan_change(alloc, entries, parts) {
             Ok(plan) => plan,
             Err(fault) => return Err(Lost {
                 host: journal.into_host(),
                 fault,
             }),
         };
-        let work = match arrange(alloc, plan.names, parts, plan.files.as_slice()) {
+        let Plan {
+            names,
+            files,
+            entries,
+        } = plan;
+        let work = match arrange(alloc, names, parts, files.as_slice()) {
             Ok(work) => work,
             Err(_) => return Err(Lost {
                 host: journal.into_host(),
@@ -143,7 +152,7 @@ impl<H: Host> Tree<H> {
             }),
         };
         match carry_out(journal, &work, change.label.as_slice()) {
-            Ok(journal) => Ok(Tree { journal, db }),
+            Ok(journal) => Ok(Tree { journal, entries }),
             Err(lost) => Err(Lost {
                 host: lost.host,
                 fault: StepError::HostFault,
