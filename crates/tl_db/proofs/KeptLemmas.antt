@@ -8,10 +8,10 @@ use Rattle.std.proofs.lemmas.List.Elements.{All-nil, All-cons, All-head, All-tai
 use Rattle.tl_model.specs.Volume.{same_name}
 use Rattle.tl_model.specs.Acks.{IsPlain, plain-nil, plain-append}
 use Rattle.tl_object.specs.Again.{ReadsAgain}
-use Rattle.tl_object.specs.Rising.{insert_by, has_key, is_rising, IsPlace}
-use Rattle.tl_object.specs.declared.object.Object.{Object}
+use Rattle.tl_entry.specs.Rising.{insert_by, has_key, is_rising, IsPlace}
+use Rattle.tl_entry.specs.declared.object.Object.{Object}
 use Rattle.tl_object.proofs.PlainLemmas.{each_more}
-use Rattle.tl_object.proofs.RisingLemmas.{insert_at}
+use Rattle.tl_entry.proofs.RisingLemmas.{insert_at}
 use Rattle.tl_db.specs.Entries.{others}
 use Rattle.tl_db.specs.Kept.{AreKept}
 use Rattle.tl_db.specs.Text.{entry_text, db_text}

@@ -2,7 +2,7 @@
 use Rattle.std.specs.Prelude.{◌≡◌, ℕ, List, All, map}
 use Rattle.tl_model.specs.Acks.{IsPlain}
 use Rattle.tl_object.specs.Again.{ReadsAgain}
-use Rattle.tl_object.specs.declared.object.Object.{Object}
+use Rattle.tl_entry.specs.declared.object.Object.{Object}
 use Rattle.tl_db.specs.Text.{entry_text}
 
 -- the text of each entry, in order; each is plain and reads as its entry again

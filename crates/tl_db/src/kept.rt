@@ -3,7 +3,7 @@ ghost use Rattle.std.specs.Prelude.{◌≡◌, [], false, Ok, OnOk, OnErr, IfOk,
 ghost use Rattle.std.specs.List.{flat_map};
 ghost use Rattle.tl_model.specs.Acks.{IsPlain};
 ghost use Rattle.tl_object.specs.Again.{ReadsAgain};
-ghost use Rattle.tl_object.specs.Rising.{has_key, insert_by};
+ghost use Rattle.tl_entry.specs.Rising.{has_key, insert_by};
 ghost use Rattle.tl_db.specs.Entries.{others};
 ghost use Rattle.tl_db.specs.Kept.{AreKept};
 ghost use Rattle.tl_db.specs.Reading.{db_of};
@@ -95,7 +95,7 @@ pub struct KeptDb {
 
 impl Model for KeptDb {
     ghost use Rattle.std.specs.Prelude.{List};
-    ghost use Rattle.tl_object.specs.declared.object.Object.{Object};
+    ghost use Rattle.tl_entry.specs.declared.object.Object.{Object};
     ghost use Rattle.tl_db.specs.Kept.{AreKept};
 
     ghost Value = { List Object };

@@ -1,6 +1,6 @@
 -- The entries that a tree holds.
 use Rattle.std.specs.Prelude.{List}
-use Rattle.tl_object.specs.declared.object.Object.{Object}
+use Rattle.tl_entry.specs.declared.object.Object.{Object}
 use Rattle.tl_tree.specs.declared.held.State.{State}
 use Rattle.tl_tree.specs.declared.held.State.TheVariants.{Read, Kept}
 

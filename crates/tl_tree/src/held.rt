@@ -21,7 +21,7 @@ pub struct Entries {
 
 impl Model for Entries {
     ghost use Rattle.std.specs.Prelude.{List};
-    ghost use Rattle.tl_object.specs.declared.object.Object.{Object};
+    ghost use Rattle.tl_entry.specs.declared.object.Object.{Object};
 
     ghost Value = { List Object };
 

@@ -1,5 +1,5 @@
 use Rattle.std.proofs.Common.{◌≤◌, List, length, subst}
-use Rattle.tl_object.specs.declared.object.Object.{Object}
+use Rattle.tl_entry.specs.declared.object.Object.{Object}
 use Rattle.tl_db.proofs.KeptLemmas.{kept_insert, kept_undone}
 use Rattle.tl_db.proofs.kept.KeptDb.add.Goals as goal
 

@@ -3,8 +3,8 @@ use Rattle.std.specs.Prelude.{All}
 use Rattle.std.proofs.lemmas.Result.{IfOk-weaker}
 use Rattle.tl_model.specs.Acks.{IsPlain}
 use Rattle.tl_object.specs.Again.{ReadsAgain}
-use Rattle.tl_object.specs.Rising.{is_rising}
-use Rattle.tl_object.specs.declared.object.Object.{Object}
+use Rattle.tl_entry.specs.Rising.{is_rising}
+use Rattle.tl_entry.specs.declared.object.Object.{Object}
 use Rattle.tl_db.specs.Reading.{db_of}
 use Rattle.tl_db.specs.Text.{db_text}
 use Rattle.tl_db.proofs.AgainLemmas.{db-again}
