@@ -1,10 +1,12 @@
 #!/usr/bin/env python3
-"""Writes a package database of the size and shape of TeX Live's to standard output.
+"""Writes a package database to standard output.
 
-usage: database.py [MEGABYTES]   (20 without an argument)
+usage: database.py [MEGABYTES|one|many] [reversed]   (20 without an argument)
 
-8,000 entries, 250,000 file lines and 8,700 doc lines with details at 20 MB; most entries have 10 to 40 lines, some 10,000 lines;
-15 platforms. The text is in the canonical form, so that printing it gives the same bytes.
+MEGABYTES: of the shape of TeX Live's; 8,000 entries, 250,000 file lines and 8,700 doc lines with details at 20 MB; most entries have
+10 to 40 lines, some 10,000 lines; 15 platforms. one: one entry with 250,000 files. many: 65,536 entries, each a name and what has to
+stand with it. The text is in the canonical form, so that printing it gives the same bytes; reversed, the files and the entries of
+one and many stand from the last to the first.
 """
 import random
 import sys
@@ -59,8 +61,7 @@ def entry(chance, number, large, detailed):
     return "\n".join(lines) + "\n\n"
 
 
-def main():
-    wanted = int(float(sys.argv[1] if len(sys.argv) > 1 else 20) * 10 ** 6)
+def usual(wanted):
     chance = random.Random(2026)
     written = number = 0
     while written < wanted:
@@ -68,6 +69,24 @@ def main():
         sys.stdout.write(text)
         written += len(text)
         number += 1
+
+
+def plain(number, files):
+    lines = [f"name pkg{number:05d}", "category Package", "revision 0"]
+    if files:
+        lines += ["runfiles size=1"] + [f" texmf-dist/tex/pkg/file{file:06d}.sty" for file in files]
+    return "\n".join(lines) + "\n\n"
+
+
+def main():
+    shape = sys.argv[1] if len(sys.argv) > 1 else "20"
+    step = -1 if "reversed" in sys.argv[2:] else 1
+    if shape == "one":
+        sys.stdout.write(plain(0, range(250000)[::step]))
+    elif shape == "many":
+        sys.stdout.writelines(plain(number, []) for number in range(65536)[::step])
+    else:
+        usual(int(float(shape) * 10 ** 6))
 
 
 main()

@@ -1,7 +1,9 @@
 #!/bin/sh
 # Measures `dump-tlpdb` over databases of 2 and 20 MB against a plain Rust program of the same steps (dump.rs), as ratios of the
-# medians of five runs each, taken in turn. It wants the proved program, rustc, python3 and GNU time; without one of them it does
-# nothing.
+# medians of five runs each, taken in turn; then over 250,000 files of one entry and over 65,536 entries, from the last to the first
+# against in order. Where a folder with the Perl modules of TeX Live's own manager is named, as
+# TLPKG=/usr/share/texlive/tlpkg, it reads and writes the 20 MB in turn too. It wants the proved program, rustc, python3 and GNU time;
+# without one of them it does nothing.
 cd "$(dirname "$0")" || exit 1
 program=../crates/texlive/out/texlive
 for tool in rustc python3 /usr/bin/time; do
@@ -11,13 +13,15 @@ done
 folder=$(mktemp -d) || exit 1
 trap 'rm -rf "$folder"' EXIT
 rustc -O -o "$folder/plain" dump.rs || exit 1
-for size in 2 20; do
-    mkdir -p "$folder/$size/tlpkg"
-    python3 database.py "$size" >"$folder/$size/tlpkg/texlive.tlpdb"
+for shape in 2 20 one many "one reversed" "many reversed"; do
+    mkdir -p "$folder/$shape/tlpkg" "$folder/$shape/texmf-dist/web2c"
+    python3 database.py $shape >"$folder/$shape/tlpkg/texlive.tlpdb"
 done
-python3 - "$program" "$folder" <<'PYTHON'
+python3 - "$program" "$folder" "$TLPKG" <<'PYTHON'
 import statistics, subprocess, sys, time
-program, folder = sys.argv[1:]
+program, folder, modules = sys.argv[1:]
+MANAGER = ["perl", "-I" + modules, "-MTeXLive::TLPDB", "-MTeXLive::TLUtils", "-e", "TeXLive::TLPDB->new(root => shift)->writeout"]
+
 
 def run(words):
     start = time.perf_counter()
@@ -26,20 +30,42 @@ def run(words):
     assert done.returncode == 0, done.stderr
     return elapsed, int(done.stderr.split()[-1])
 
-medians = {}
-for size in (2, 20):
-    root = f"{folder}/{size}"
-    times = {"texlive": [], "plain": []}
+
+def dump(root):
+    return [program, f"{folder}/{root}", "dump-tlpdb", "--local"]
+
+
+def medians(commands, check):
+    times = {name: [] for name in commands}
     memory = {}
     for _ in range(5):
-        for name, words in (("texlive", [program, root, "dump-tlpdb", "--local"]), ("plain", [folder + "/plain", root])):
+        for name, words in commands.items():
             elapsed, memory[name] = run(words)
             times[name].append(elapsed)
-            assert open(folder + "/out", "rb").read() == open(root + "/tlpkg/texlive.tlpdb", "rb").read(), name
-    medians[size] = {name: statistics.median(each) for name, each in times.items()}
-    text = len(open(root + "/tlpkg/texlive.tlpdb", "rb").read())
-    print(f"{size} MB: texlive / plain = {medians[size]['texlive'] / medians[size]['plain']:.2f} in time"
-          f" ({medians[size]['texlive'] * 1000:.0f} ms, {medians[size]['plain'] * 1000:.0f} ms),"
-          f" memory / text = {memory['texlive'] * 1024 / text:.1f} (plain {memory['plain'] * 1024 / text:.1f})")
-print(f"20 MB / 2 MB = {medians[20]['texlive'] / medians[2]['texlive']:.1f} in time")
+            if name in check:
+                assert open(folder + "/out", "rb").read() == open(check[name], "rb").read(), name
+    return {name: statistics.median(each) for name, each in times.items()}, memory
+
+
+taken = {}
+for size in ("2", "20"):
+    text = f"{folder}/{size}/tlpkg/texlive.tlpdb"
+    commands = {"texlive": dump(size), "plain": [folder + "/plain", f"{folder}/{size}"]}
+    if modules and size == "20":
+        commands["manager"] = MANAGER + [f"{folder}/{size}"]
+    times, memory = medians(commands, {"texlive": text, "plain": text})
+    taken[size] = times["texlive"]
+    length = len(open(text, "rb").read())
+    print(f"{size} MB: texlive / plain = {times['texlive'] / times['plain']:.2f} in time"
+          f" ({times['texlive'] * 1000:.0f} ms, {times['plain'] * 1000:.0f} ms),"
+          f" memory / text = {memory['texlive'] * 1024 / length:.1f} (plain {memory['plain'] * 1024 / length:.1f})")
+    if "manager" in times:
+        print(f"{size} MB: TeX Live's own manager / texlive = {times['manager'] / times['texlive']:.1f} in time"
+              f" ({times['manager'] * 1000:.0f} ms), {memory['manager'] / memory['texlive']:.1f} in memory")
+print(f"20 MB / 2 MB = {taken['20'] / taken['2']:.1f} in time")
+for shape, what in (("one", "250,000 files of one entry"), ("many", "65,536 entries")):
+    text = f"{folder}/{shape}/tlpkg/texlive.tlpdb"
+    times, _ = medians({"sorted": dump(shape), "reversed": dump(f"{shape} reversed")}, {"sorted": text, "reversed": text})
+    print(f"{what}: from the last to the first / in order = {times['reversed'] / times['sorted']:.1f} in time"
+          f" ({times['reversed'] * 1000:.0f} ms, {times['sorted'] * 1000:.0f} ms)")
 PYTHON
