@@ -1,5 +1,5 @@
 -- The command that words stand for.
-use Rattle.std.specs.Prelude.{◌≡◌, ℕ, Bool, if◌then◌else◌, IsTrue, List, [], ◌∷◌, ◌++◌, Option, Some, None, option_map, unwrap_or, map, find, bytes_eq}
+use Rattle.std.specs.Prelude.{◌≡◌, ℕ, Bool, if◌then◌else◌, List, [], ◌∷◌, ◌++◌, Option, Some, None, option_map, unwrap_or, map, find, bytes_eq}
 use Rattle.std.specs.List.{list_any}
 use Rattle.tl_model.specs.Decimal.{decimal_value}
 use Rattle.tl_path.specs.declared.kinds.Check.{Check}
@@ -16,7 +16,7 @@ use Rattle.tl_action.specs.declared.command.PinAction.TheVariants.{Show, Add, Re
 use Rattle.tl_action.specs.declared.command.Action.{Action}
 use Rattle.tl_action.specs.declared.command.Action.TheVariants as actions
 use Rattle.tl_action.specs.declared.command.Command.{Command}
-use Rattle.tl_action.specs.Table.{built_actions, session_actions, action_named_among, is_on}
+use Rattle.tl_action.specs.Table.{built_actions, session_actions, action_named_among}
 use Rattle.tl_words.specs.Parts.{Part}
 use Rattle.tl_action.specs.Forms.{is_number_within, pin_word}
 use Rattle.tl_words.specs.Settings.{repositories_of, workers_of, user_of, has_option}

@@ -3,7 +3,7 @@ use Rattle.std.specs.Prelude.{ℕ, ◌+◌, ◌==◌, ◌&&◌, ◌||◌, Bool, 
 use Rattle.tl_words.specs.declared.error.WordKind.TheVariants as kinds
 use Rattle.tl_words.specs.declared.faults.Fault.{Fault}
 use Rattle.tl_action.specs.declared.table.OptionName.{OptionName}
-use Rattle.tl_action.specs.declared.table.OptionName.TheVariants.{Usertree, Usermode, Local, All, Formats, Reinstall, NoDependsAtAll}
+use Rattle.tl_action.specs.declared.table.OptionName.TheVariants.{Usertree, Usermode, Local, All}
 use Rattle.tl_action.specs.declared.action_name.ActionName.{ActionName}
 use Rattle.tl_action.specs.Table.{built_actions, session_actions, action_named_among, goes_with, is_unfit_for_users, is_for_users, needs_local, operands_of, is_served}
 use Rattle.tl_words.specs.Parts.{Part, given, plain, parts}

@@ -1,5 +1,4 @@
 use Rattle.std.proofs.Common.{List, ℕ, ◌∙◌, Bor, ap, map, sym, subst}
-use Rattle.tl_words.specs.Commands.{distinct}
 use Rattle.tl_words.specs.Fit.{AreNames}
 use Rattle.tl_words.specs.Inside.{words_left}
 use Rattle.tl_words.proofs.Fit.{distinct-names, borrowed-names}
