@@ -175,8 +175,9 @@ impl KeptDb {
     {
         match place_of(self.db.objects(), name.bytes()) {
             Some(at) => {
+                let there = self.db.without(name);
                 let _ = self.texts.remove(at);
-                self.db.without(name)
+                there
             }
             None => false,
         }
