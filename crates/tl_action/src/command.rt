@@ -1,6 +1,7 @@
 // The command that words stand for.
-use crate::lists::{Bytes, Names, Texts};
+use crate::lists::{Names, Texts};
 use std::marker::Model;
+use tl_file::Bytes;
 use tl_path::{Check, Name, Tag};
 
 /// A repository: its tag and its folder.

@@ -14,8 +14,9 @@ pub use command::{Action, Command, PinAction, Repositories, Repository};
 pub use expected::Expected;
 pub use form::{Form, PinWord, number_within};
 pub use help::usage;
-pub use lists::{Bytes, Names, Texts};
+pub use lists::{Names, Texts};
 pub use table::OptionName;
+pub use tl_file::Bytes;
 
 #[cfg(test)]
 mod tests;

@@ -2,45 +2,6 @@
 use std::marker::Model;
 use tl_path::Name;
 
-/// Bytes, seen as the list of them.
-#[derive(Drop)]
-pub struct Bytes {
-    items: Vec<u8>,
-}
-
-impl Model for Bytes {
-    ghost use Rattle.std.specs.Prelude.{List, ℕ};
-
-    ghost Value = { List ℕ };
-
-    ghost view = { λ a. a.items.items };
-}
-
-impl Bytes {
-    ghost use Rattle.std.specs.Prelude.{◌≡◌};
-
-    /// These bytes. No memory.
-    pub fn new(items: Vec<u8>) -> Bytes
-        ensures { result ≡ items.items }
-    {
-        Bytes { items }
-    }
-
-    /// The bytes.
-    pub fn as_slice(&self) -> &[u8]
-        ensures { result.now ≡ self.now }
-    {
-        self.items.as_slice()
-    }
-
-    /// The bytes as a vector. No memory.
-    pub fn into_vec(self) -> Vec<u8>
-        ensures { result.items ≡ self }
-    {
-        self.items
-    }
-}
-
 /// Texts in order, seen as the list of their bytes.
 #[derive(Drop)]
 pub struct Texts {

@@ -3,7 +3,7 @@ ghost use Rattle.std.specs.Prelude.{◌≡◌};
 use std::marker::Model;
 use tl_path::Path;
 
-/// The bytes of a file.
+/// Bytes, as those of a file. Contracts see the list of them.
 #[derive(Debug, Drop)]
 pub struct Bytes {
     items: Vec<u8>,
