@@ -1,5 +1,5 @@
 -- Lists that rise by a key, as their elements come.
-use Rattle.std.proofs.Common.{◌≡◌, ℕ, Bool, true, false, ◌&&◌, ◌||◌, List, [], ◌∷◌, ◌++◌, length, refl, sym, ap, subst, ◌∙◌}
+use Rattle.std.proofs.Common.{◌≡◌, ℕ, Bool, true, false, ◌||◌, List, [], ◌∷◌, ◌++◌, length, cond, ◌⊎◌, inl, inr, refl, sym, ap, subst, ◌∙◌}
 use Rattle.std.specs.Prelude.{Vec, Result, Ok, Err, IfOk, OnErr, MatchBool}
 use Rattle.std.specs.Ordering.{nat_cmp, is_eq, ordering_reverse, match_ordering}
 use Rattle.std.specs.declared.cmp.Ordering.{Ordering}
@@ -7,22 +7,16 @@ use Rattle.std.specs.declared.cmp.Ordering.TheVariants.{Less, Equal, Greater}
 use Rattle.std.specs.Cmp.Lexicographic.{slice_cmp}
 use Rattle.std.specs.List.{insert, list_any}
 use Rattle.std.specs.BTreeSet.{insert_key}
+use Rattle.std.proofs.lemmas.Bool.{cases_Bool, true≢false}
 use Rattle.std.proofs.lemmas.Cmp.{nat_list_cmp_total}
 use Rattle.tl_model.specs.Volume.{same_name, same_name-is}
-use Rattle.tl_entry.specs.Rising.{insert_by, has_key, is_rising, IsPlace}
+use Rattle.tl_entry.specs.Rising.{comes_before, insert_by, has_key, is_rising, IsPlace}
 use Rattle.tl_entry.specs.Gathering.{with_all, IsKeySet, AreGathered}
-use Rattle.tl_entry.proofs.RisingLemmas.{absent_at, insert_at, rising-insert}
+use Rattle.tl_entry.proofs.RisingLemmas.{absent_at, insert_at, rising-insert, before_trans, before_not, before_other}
 use Rattle.tl_entry.proofs.SetLemmas.{has-insert}
 
 abbrev Text : Type 0
 Text = List ℕ
-
-both : (a b : Bool) → (a && b) ≡ true → (a ≡ true) × (b ≡ true)
-both true b e = (refl, e)
-both false b e = absurd (cc)
-
-joined : (a b : Bool) → a ≡ true → b ≡ true → (a && b) ≡ true
-joined a b p q = ap (λ t. t && b) p ∙ q
 
 or_turned : (a b c : Bool) → (a || (b || c)) ≡ ((b || a) || c)
 or_turned true true c = refl
@@ -35,6 +29,10 @@ or_comm true true c = refl
 or_comm true false c = refl
 or_comm false true c = refl
 or_comm false false c = refl
+
+apart_parts : (a b : Bool) → (a || b) ≡ false → (a ≡ false) × (b ≡ false)
+apart_parts true b e = absurd (cc)
+apart_parts false b e = (refl, e)
 
 or_twice : (a b c : Bool) → a ≡ b → (b || c) ≡ (a || (b || c))
 or_twice true b c e = subst (λ (t : Bool). (t || c) ≡ true) e refl
@@ -68,6 +66,10 @@ module _ {A : Type 0} (key : A → Text) where
   pub among_late : (wanted : Text) (late sorted : List A) → has_key key wanted sorted ≡ false → has_key key wanted (with_all key late sorted) ≡ has_key key wanted late
   among_late wanted late sorted none = has-with_all wanted late sorted ∙ ap (λ t. has_key key wanted late || t) none ∙ or_false (has_key key wanted late)
 
+  -- what is among the late ones is among all
+  pub among_all : (wanted : Text) (late sorted : List A) → has_key key wanted late ≡ true → has_key key wanted (with_all key late sorted) ≡ true
+  among_all wanted late sorted there = has-with_all wanted late sorted ∙ ap (λ t. t || has_key key wanted sorted) there
+
   pub place_at : (x : A) (wanted : Text) (items xs : List A) (at : ℕ) → wanted ≡ key x → items ≡ xs → IsPlace key wanted items at → IsPlace key (key x) xs at
   place_at x wanted items xs at is same place = subst (λ (w : Text). IsPlace key w xs at) is (subst (λ (ys : List A). IsPlace key wanted ys at) same place)
 
@@ -92,17 +94,72 @@ module _ {A : Type 0} (key : A → Text) where
       let e : sorted ++ x ∷ [] ≡ insert_by key x sorted = sym (insert_last sorted x) ∙ sym (insert_at key x sorted (length sorted) place) in
       (record { absent = none; same = e }, subst (λ (ys : List A). is_rising key ys ≡ true) (sym e) (rising-insert key x sorted up none))
 
-  -- what an element leaves that goes to the end while nothing is late
+  goes_first : (x y : A) (xs : List A) → comes_before (key x) (key y) ≡ true → insert_by key x (y ∷ xs) ≡ x ∷ y ∷ xs
+  goes_first x y xs e = ap (λ t. cond t (x ∷ y ∷ xs) (y ∷ insert_by key x xs)) e
+
+  goes_later : (x y : A) (xs : List A) → comes_before (key x) (key y) ≡ false → insert_by key x (y ∷ xs) ≡ y ∷ insert_by key x xs
+  goes_later x y xs e = ap (λ t. cond t (x ∷ y ∷ xs) (y ∷ insert_by key x xs)) e
+
+  -- what is behind a third doesn't come before what is before it
+  not_crossed : (a b c : Text) → comes_before a c ≡ true → comes_before b c ≡ false → comes_before b a ≡ false
+  not_crossed a b c lt later = elim (cases_Bool (comes_before b a)) [
+    | inl lt' ↦ absurd (true≢false (sym (before_trans b a c lt' lt) ∙ later))
+    | inr other ↦ other
+  ]
+
+  -- two elements with different keys go in in either order
+  insert_swap : (x y : A) (xs : List A) → same_name (key y) (key x) ≡ false → insert_by key y (insert_by key x xs) ≡ insert_by key x (insert_by key y xs)
+  insert_swap x y [] apart = elim (cases_Bool (comes_before (key x) (key y))) [
+    | inl lt ↦ goes_later y x [] (before_not (key x) (key y) lt) ∙ sym (goes_first x y [] lt)
+    | inr later ↦ goes_first y x [] (before_other (key x) (key y) later apart) ∙ sym (goes_later x y [] later)
+  ]
+  insert_swap x y (z ∷ xs) apart = at (cases_Bool (comes_before (key x) (key z))) (cases_Bool (comes_before (key y) (key z))) (cases_Bool (comes_before (key x) (key y))) (insert_swap x y xs apart)
+    where
+      at : (comes_before (key x) (key z) ≡ true) ⊎ (comes_before (key x) (key z) ≡ false) → (comes_before (key y) (key z) ≡ true) ⊎ (comes_before (key y) (key z) ≡ false)
+          → (comes_before (key x) (key y) ≡ true) ⊎ (comes_before (key x) (key y) ≡ false) → insert_by key y (insert_by key x xs) ≡ insert_by key x (insert_by key y xs)
+          → insert_by key y (insert_by key x (z ∷ xs)) ≡ insert_by key x (insert_by key y (z ∷ xs))
+      at (inl xz) (inl yz) (inl xy) more =
+          ap (insert_by key y) (goes_first x z xs xz) ∙ goes_later y x (z ∷ xs) (before_not (key x) (key y) xy) ∙ ap (λ (l : List A). x ∷ l) (goes_first y z xs yz)
+          ∙ sym (ap (insert_by key x) (goes_first y z xs yz) ∙ goes_first x y (z ∷ xs) xy)
+      at (inl xz) (inl yz) (inr yx) more =
+          ap (insert_by key y) (goes_first x z xs xz) ∙ goes_first y x (z ∷ xs) (before_other (key x) (key y) yx apart)
+          ∙ sym (ap (insert_by key x) (goes_first y z xs yz) ∙ goes_later x y (z ∷ xs) yx ∙ ap (λ (l : List A). y ∷ l) (goes_first x z xs xz))
+      at (inl xz) (inr zy) xy more =
+          ap (insert_by key y) (goes_first x z xs xz) ∙ goes_later y x (z ∷ xs) (not_crossed (key x) (key y) (key z) xz zy) ∙ ap (λ (l : List A). x ∷ l) (goes_later y z xs zy)
+          ∙ sym (ap (insert_by key x) (goes_later y z xs zy) ∙ goes_first x z (insert_by key y xs) xz)
+      at (inr zx) (inl yz) xy more =
+          ap (insert_by key y) (goes_later x z xs zx) ∙ goes_first y z (insert_by key x xs) yz
+          ∙ sym (ap (insert_by key x) (goes_first y z xs yz) ∙ goes_later x y (z ∷ xs) (not_crossed (key y) (key x) (key z) yz zx) ∙ ap (λ (l : List A). y ∷ l) (goes_later x z xs zx))
+      at (inr zx) (inr zy) xy more =
+          ap (insert_by key y) (goes_later x z xs zx) ∙ goes_later y z (insert_by key x xs) zy ∙ ap (λ (l : List A). z ∷ l) more
+          ∙ sym (ap (insert_by key x) (goes_later y z xs zy) ∙ goes_later x z (insert_by key y xs) zx)
+
+  -- an element may go in before the late ones, where none of them has its key
+  with_all-first : (late sorted : List A) (x : A) → has_key key (key x) late ≡ false → with_all key late (insert_by key x sorted) ≡ insert_by key x (with_all key late sorted)
+  with_all-first [] sorted x none = refl
+  with_all-first (y ∷ late) sorted x none =
+      ap (λ (l : List A). with_all key late l) (insert_swap x y sorted (apart_parts _ _ none).0) ∙ with_all-first late (insert_by key y sorted) x (apart_parts _ _ none).1
+
+  -- what an element leaves that goes to the end
   pub record AddedLast (x : A) (sorted late new : List A) : Type 0 where
     pub absent : has_key key (key x) (with_all key late sorted) ≡ false
     pub same : with_all key late new ≡ insert_by key x (with_all key late sorted)
     pub gathered : AreGathered key new late
 
-  pub after_last : (x : A) (sorted late new : List A) (at : ℕ) → AreGathered key sorted late → IsPlace key (key x) sorted at → at ≡ length sorted → late ≡ [] → new ≡ sorted ++ x ∷ [] → AddedLast x sorted late new
+  pub after_last : (x : A) (sorted late new : List A) (at : ℕ) → AreGathered key sorted late → IsPlace key (key x) sorted at → at ≡ length sorted → has_key key (key x) late ≡ false → new ≡ sorted ++ x ∷ [] → AddedLast x sorted late new
   after_last x sorted late new at old place end none after =
       let p = added_last x sorted old.sorted_rises (subst (λ (n : ℕ). IsPlace key (key x) sorted n) end place) in
-      let here : AddedLast x sorted [] (sorted ++ x ∷ []) = record { absent = p.0.absent; same = p.0.same; gathered = record { sorted_rises = p.1; all_rises = p.1 } } in
-      subst (λ (l : List A). AddedLast x sorted l new) (sym none) (subst (λ (ys : List A). AddedLast x sorted [] ys) (sym after) here)
+      let is : new ≡ insert_by key x sorted = after ∙ p.0.same in
+      let e : with_all key late new ≡ insert_by key x (with_all key late sorted) = ap (with_all key late) is ∙ with_all-first late sorted x none in
+      let none' : has_key key (key x) (with_all key late sorted) ≡ false = has-with_all (key x) late sorted ∙ ap (λ t. t || has_key key (key x) sorted) none ∙ p.0.absent in
+      record {
+        absent = none';
+        same = e;
+        gathered = record {
+          sorted_rises = subst (λ (ys : List A). is_rising key ys ≡ true) (sym after) p.1;
+          all_rises = subst (λ (ys : List A). is_rising key ys ≡ true) (sym e) (rising-insert key x (with_all key late sorted) old.all_rises none');
+        };
+      }
 
   -- an element that is neither among the sorted nor among the late ones goes to the late ones
   pub added_late : (x : A) (sorted late : List A) → AreGathered key sorted late → has_key key (key x) sorted ≡ false → has_key key (key x) late ≡ false

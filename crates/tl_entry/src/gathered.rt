@@ -11,12 +11,12 @@ use std::alloc::{AllocError, Global};
 use std::cmp::Ordering;
 use std::marker::Model;
 
-/// Elements in rising order of their keys, each key once, as they come. Where they come in order, each costs one
-/// comparison; in any other order n of them take time in proportion to n log n.
+/// Elements in rising order of their keys, each key once, as they come. One that comes behind none with a greater key
+/// costs one comparison while all did; in any order n of them take time in proportion to n log n.
 #[derive(Drop)]
 pub struct Gathered<T: Keyed + Drop> {
     sorted: Vec<T>,
-    // Those from the first on whose key wasn't the greatest.
+    // Those that came behind one with a greater key.
     late: Late<T>,
 }
 
@@ -61,11 +61,14 @@ impl<T: Keyed + Drop> Gathered<T> {
         let Some(at) = place_for(self.sorted.as_slice(), item.key()) else {
             return Ok(false);
         };
-        if at == self.sorted.len() && self.late.is_empty() {
-            self.sorted.push(item)?;
-            return Ok(true);
+        if at < self.sorted.len() {
+            return self.late.add(alloc, item);
         }
-        self.late.add(alloc, item)
+        if self.late.has(item.key()) {
+            return Ok(false);
+        }
+        self.sorted.push(item)?;
+        Ok(true)
     }
 
     /// Puts an element in its place. None has its key yet.

@@ -1,5 +1,5 @@
 //! Elements that came late, and their keys.
-ghost use Rattle.std.specs.Prelude.{◌≡◌, ◌++◌, ◌∷◌, [], true, false, IfOk, OnErr, MatchBool, IsTrue, ◌↔◌};
+ghost use Rattle.std.specs.Prelude.{◌≡◌, ◌++◌, ◌∷◌, [], true, false, IfOk, OnErr, MatchBool};
 ghost use Rattle.tl_entry.specs.Rising.{has_key};
 
 use crate::rising::Keyed;
@@ -34,12 +34,6 @@ impl<T: Keyed + Drop> Late<T> {
             items: Vec::new(alloc),
             keys: BTreeSet::new(alloc),
         }
-    }
-
-    pub(crate) fn is_empty(&self) -> bool
-        ensures { IsTrue result ↔ (self.now ≡ []) }
-    {
-        self.items.is_empty()
     }
 
     pub(crate) fn has(&self, key: &[u8]) -> bool
