@@ -1,5 +1,5 @@
 -- Lists that rise by a key, as their elements come.
-use Rattle.std.proofs.Common.{◌≡◌, ℕ, Bool, true, false, ◌||◌, List, [], ◌∷◌, ◌++◌, length, cond, ◌⊎◌, inl, inr, refl, sym, ap, subst, ◌∙◌}
+use Rattle.std.proofs.Common.{◌≡◌, zero, suc, ◌<◌, get_or, arith, ℕ, Bool, true, false, ◌||◌, List, [], ◌∷◌, ◌++◌, length, cond, ◌⊎◌, inl, inr, refl, sym, ap, subst, ◌∙◌}
 use Rattle.std.specs.Prelude.{Vec, Result, Ok, Err, IfOk, OnErr, MatchBool}
 use Rattle.std.specs.Ordering.{nat_cmp, is_eq, ordering_reverse, match_ordering}
 use Rattle.std.specs.declared.cmp.Ordering.{Ordering}
@@ -12,7 +12,7 @@ use Rattle.std.proofs.lemmas.Cmp.{nat_list_cmp_total}
 use Rattle.tl_model.specs.Volume.{same_name, same_name-is}
 use Rattle.tl_entry.specs.Rising.{comes_before, insert_by, has_key, is_rising, IsPlace}
 use Rattle.tl_entry.specs.Gathering.{with_all, IsKeySet, AreGathered}
-use Rattle.tl_entry.proofs.RisingLemmas.{absent_at, insert_at, rising-insert, before_trans, before_not, before_other}
+use Rattle.tl_entry.proofs.RisingLemmas.{absent_at, insert_at, rising-insert, before_trans, before_not, before_apart, before_other}
 use Rattle.tl_entry.proofs.SetLemmas.{has-insert}
 
 abbrev Text : Type 0
@@ -65,10 +65,6 @@ module _ {A : Type 0} (key : A → Text) where
   -- what isn't among the sorted is among all where it is among the late ones
   pub among_late : (wanted : Text) (late sorted : List A) → has_key key wanted sorted ≡ false → has_key key wanted (with_all key late sorted) ≡ has_key key wanted late
   among_late wanted late sorted none = has-with_all wanted late sorted ∙ ap (λ t. has_key key wanted late || t) none ∙ or_false (has_key key wanted late)
-
-  -- what is among the late ones is among all
-  pub among_all : (wanted : Text) (late sorted : List A) → has_key key wanted late ≡ true → has_key key wanted (with_all key late sorted) ≡ true
-  among_all wanted late sorted there = has-with_all wanted late sorted ∙ ap (λ t. t || has_key key wanted sorted) there
 
   pub place_at : (x : A) (wanted : Text) (items xs : List A) (at : ℕ) → wanted ≡ key x → items ≡ xs → IsPlace key wanted items at → IsPlace key (key x) xs at
   place_at x wanted items xs at is same place = subst (λ (w : Text). IsPlace key w xs at) is (subst (λ (ys : List A). IsPlace key wanted ys at) same place)
@@ -140,15 +136,36 @@ module _ {A : Type 0} (key : A → Text) where
   with_all-first (y ∷ late) sorted x none =
       ap (λ (l : List A). with_all key late l) (insert_swap x y sorted (apart_parts _ _ none).0) ∙ with_all-first late (insert_by key y sorted) x (apart_parts _ _ none).1
 
+  front_read : (xs : List A) (x d : A) (k : ℕ) → k < length xs → get_or (xs ++ x ∷ []) k d ≡ get_or xs k d
+  front_read [] x d k lt = absurd (omega arith)
+  front_read (y ∷ ys) x d zero lt = refl
+  front_read (y ∷ ys) x d (suc k) lt = front_read ys x d k (omega arith)
+
+  length_last : (xs : List A) (x : A) → length (xs ++ x ∷ []) ≡ suc (length xs)
+  length_last [] x = refl
+  length_last (y ∷ ys) x = ap suc (length_last ys x)
+
+  -- what is above all of a list is above all but the last
+  above_front : (wanted : Text) (xs : List A) (x : A) → IsPlace key wanted (xs ++ x ∷ []) (length (xs ++ x ∷ [])) → IsPlace key wanted xs (length xs)
+  above_front wanted xs x place =
+      let e = length_last xs x in
+      record {
+        within = omega arith;
+        below = λ k d lt. subst (λ (y : A). comes_before (key y) wanted ≡ true) (front_read xs x d k lt) (place.below k d (omega (arith, e)));
+        above = λ k d le lt. absurd (omega arith);
+      }
+
   -- what an element leaves that goes to the end
   pub record AddedLast (x : A) (sorted late new : List A) : Type 0 where
     pub absent : has_key key (key x) (with_all key late sorted) ≡ false
     pub same : with_all key late new ≡ insert_by key x (with_all key late sorted)
     pub gathered : AreGathered key new late
 
-  pub after_last : (x : A) (sorted late new : List A) (at : ℕ) → AreGathered key sorted late → IsPlace key (key x) sorted at → at ≡ length sorted → has_key key (key x) late ≡ false → new ≡ sorted ++ x ∷ [] → AddedLast x sorted late new
-  after_last x sorted late new at old place end none after =
-      let p = added_last x sorted old.sorted_rises (subst (λ (n : ℕ). IsPlace key (key x) sorted n) end place) in
+  pub after_last : (x : A) (sorted late new : List A) (at : ℕ) → AreGathered key sorted late → IsPlace key (key x) sorted at → at ≡ length sorted → new ≡ sorted ++ x ∷ [] → AddedLast x sorted late new
+  after_last x sorted late new at old place end after =
+      let high = subst (λ (n : ℕ). IsPlace key (key x) sorted n) end place in
+      let p = added_last x sorted old.sorted_rises high in
+      let none = old.none_above (key x) high in
       let is : new ≡ insert_by key x sorted = after ∙ p.0.same in
       let e : with_all key late new ≡ insert_by key x (with_all key late sorted) = ap (with_all key late) is ∙ with_all-first late sorted x none in
       let none' : has_key key (key x) (with_all key late sorted) ≡ false = has-with_all (key x) late sorted ∙ ap (λ t. t || has_key key (key x) sorted) none ∙ p.0.absent in
@@ -158,34 +175,39 @@ module _ {A : Type 0} (key : A → Text) where
         gathered = record {
           sorted_rises = subst (λ (ys : List A). is_rising key ys ≡ true) (sym after) p.1;
           all_rises = subst (λ (ys : List A). is_rising key ys ≡ true) (sym e) (rising-insert key x (with_all key late sorted) old.all_rises none');
+          none_above = λ wanted above. old.none_above wanted (above_front wanted sorted x (subst (λ (ys : List A). IsPlace key wanted ys (length ys)) after above));
         };
       }
 
   -- an element that is neither among the sorted nor among the late ones goes to the late ones
-  pub added_late : (x : A) (sorted late : List A) → AreGathered key sorted late → has_key key (key x) sorted ≡ false → has_key key (key x) late ≡ false
+  added_late : (x : A) (sorted late : List A) (at : ℕ) → AreGathered key sorted late → IsPlace key (key x) sorted at → at < length sorted → has_key key (key x) late ≡ false
       → Added x (with_all key late sorted) (with_all key (late ++ x ∷ []) sorted) × AreGathered key sorted (late ++ x ∷ [])
-  added_late x sorted late old apart apart' =
+  added_late x sorted late at old place lt apart' =
+      let apart = absent_at key (key x) sorted at place in
       let none : has_key key (key x) (with_all key late sorted) ≡ false = has-with_all (key x) late sorted ∙ ap (λ t. t || has_key key (key x) sorted) apart' ∙ apart in
       let e = with_all-more late sorted x in (
         record { absent = none; same = e },
         record {
           sorted_rises = old.sorted_rises;
           all_rises = subst (λ (ys : List A). is_rising key ys ≡ true) (sym e) (rising-insert key x (with_all key late sorted) old.all_rises none);
+          none_above = λ wanted high.
+              let below = before_trans (key x) (key (get_or sorted at x)) wanted (place.above at x (omega arith) lt) (high.below at x lt) in
+              has-append wanted late x ∙ ap (λ t. t || has_key key wanted late) (before_apart (key x) wanted below) ∙ old.none_above wanted high;
         },
       )
 
   -- what an element leaves that goes to the late ones, unless its key is among theirs
-  pub after_late : {E : Type 0} (r : Result Bool E) (x : A) (sorted late late' : List A) → AreGathered key sorted late → has_key key (key x) sorted ≡ false
+  pub after_late : {E : Type 0} (r : Result Bool E) (x : A) (sorted late late' : List A) (at : ℕ) → AreGathered key sorted late → IsPlace key (key x) sorted at → at < length sorted
       → IfOk r (λ added. MatchBool added ((has_key key (key x) late ≡ false) × (late' ≡ late ++ x ∷ [])) ((has_key key (key x) late ≡ true) × (late' ≡ late))) → OnErr r (late' ≡ late)
       → AreGathered key sorted late' × IfOk r (λ added. MatchBool added
       ((has_key key (key x) (with_all key late sorted) ≡ false) × (with_all key late' sorted ≡ insert_by key x (with_all key late sorted)))
       (has_key key (key x) (with_all key late sorted) ≡ true))
-  after_late (Ok true) x sorted late late' old apart ok err =
-      let p = added_late x sorted late old apart ok.0 in
+  after_late (Ok true) x sorted late late' at old place lt ok err =
+      let p = added_late x sorted late at old place lt ok.0 in
       (subst (λ (l : List A). AreGathered key sorted l) (sym ok.1) p.1, (p.0.absent, ap (λ (l : List A). with_all key l sorted) ok.1 ∙ p.0.same))
-  after_late (Ok false) x sorted late late' old apart ok err =
+  after_late (Ok false) x sorted late late' at old place lt ok err =
       (subst (λ (l : List A). AreGathered key sorted l) (sym ok.1) old, has-with_all (key x) late sorted ∙ ap (λ t. t || has_key key (key x) sorted) ok.0)
-  after_late (Err e) x sorted late late' old apart ok err = (subst (λ (l : List A). AreGathered key sorted l) (sym err) old, tt)
+  after_late (Err e) x sorted late late' at old place lt ok err = (subst (λ (l : List A). AreGathered key sorted l) (sym err) old, tt)
 
 is_eq-back : (a b : Text) → is_eq (slice_cmp nat_cmp a b) ≡ same_name b a
 is_eq-back a b = sym (ap is_eq (nat_list_cmp_total.antisymm b a) ∙ turned (slice_cmp nat_cmp a b))

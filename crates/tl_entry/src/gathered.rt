@@ -11,8 +11,8 @@ use std::alloc::{AllocError, Global};
 use std::cmp::Ordering;
 use std::marker::Model;
 
-/// Elements in rising order of their keys, each key once, as they come. One that comes behind none with a greater key
-/// costs one comparison while all did; in any order n of them take time in proportion to n log n.
+/// Elements in rising order of their keys, each key once, as they come. One whose key is greater than all before costs one
+/// comparison; in any order n of them take time in proportion to n log n.
 #[derive(Drop)]
 pub struct Gathered<T: Keyed + Drop> {
     sorted: Vec<T>,
@@ -63,9 +63,6 @@ impl<T: Keyed + Drop> Gathered<T> {
         };
         if at < self.sorted.len() {
             return self.late.add(alloc, item);
-        }
-        if self.late.has(item.key()) {
-            return Ok(false);
         }
         self.sorted.push(item)?;
         Ok(true)

@@ -1,7 +1,6 @@
-use Rattle.std.proofs.Common.{◌≡◌, List, ℕ, true, false, ap, sym, ◌∙◌, arith}
+use Rattle.std.proofs.Common.{◌≡◌, List, ℕ, true, ap, sym, ◌∙◌, arith}
 use Rattle.tl_entry.specs.Rising.{has_key}
-use Rattle.tl_entry.proofs.RisingLemmas.{absent_at}
-use Rattle.tl_entry.proofs.GatherLemmas.{among_sorted, among_all, place_at, after_last, after_late}
+use Rattle.tl_entry.proofs.GatherLemmas.{among_sorted, place_at, after_last, after_late}
 use Rattle.tl_entry.proofs.gathered.Gathered.add.Goals as goal
 
 pub returns-in_default : goal.returns-in_default
@@ -15,36 +14,25 @@ pub invariant_of-self : goal.invariant_of-self
 invariant_of-self g c =
     let key = g.T.Keyed.key in
     let place = place_at key c.args.item c.key.result.now c.as_slice.result.now c.self.inside.sorted.items c.in-Some.at c.key.ensures c.as_slice.ensures.value c.in-Some.ensures in
-    (after_late key c.add.result c.args.item c.self.inside.sorted.items c.self.inside.late c.add.new.self c.self.invariant (absent_at key (key c.args.item) c.self.inside.sorted.items c.in-Some.at place) c.add.ensures.ok c.add.ensures.err).0
+    (after_late key c.add.result c.args.item c.self.inside.sorted.items c.self.inside.late c.add.new.self c.in-Some.at c.self.invariant place (omega arith) c.add.ensures.ok c.add.ensures.err).0
 
 pub returns-then-at-len : goal.returns-then-at-len
 returns-then-at-len g c =
     let key = g.T.Keyed.key in
     let place = place_at key c.args.item c.key.result.now c.as_slice.result.now c.self.inside.sorted.items c.in-Some.at c.key.ensures c.as_slice.ensures.value c.in-Some.ensures in
     rw (← c.self.view_is)
-    (after_late key c.add.result c.args.item c.self.inside.sorted.items c.self.inside.late c.add.new.self c.self.invariant (absent_at key (key c.args.item) c.self.inside.sorted.items c.in-Some.at place) c.add.ensures.ok c.add.ensures.err).1
-
-pub returns-then-has : goal.returns-then-has
-returns-then-has g c =
-    let key = g.T.Keyed.key in
-    let there : has_key key (key c.args.item) c.self.inside.late ≡ true =
-    ap (λ (w : List ℕ). has_key key w c.self.inside.late) (sym c.key-2.ensures) ∙ sym c.has.ensures ∙ c.if-has.true in
-    rw (← c.self.view_is) (among_all key (key c.args.item) c.self.inside.late c.self.inside.sorted.items there)
+    (after_late key c.add.result c.args.item c.self.inside.sorted.items c.self.inside.late c.add.new.self c.in-Some.at c.self.invariant place (omega arith) c.add.ensures.ok c.add.ensures.err).1
 
 pub invariant_of-self-2 : goal.invariant_of-self-2
 invariant_of-self-2 g c =
     let key = g.T.Keyed.key in
     let place = place_at key c.args.item c.key.result.now c.as_slice.result.now c.self.inside.sorted.items c.in-Some.at c.key.ensures c.as_slice.ensures.value c.in-Some.ensures in
-    let none : has_key key (key c.args.item) c.self.inside.late ≡ false =
-    ap (λ (w : List ℕ). has_key key w c.self.inside.late) (sym c.key-2.ensures) ∙ sym c.has.ensures ∙ c.if-has.false in
-    let p = after_last key c.args.item c.self.inside.sorted.items c.self.inside.late c.push.new.self.items c.in-Some.at c.self.invariant place (omega (arith, place.within)) none c.in_ok-push.ensures.items in
+    let p = after_last key c.args.item c.self.inside.sorted.items c.self.inside.late c.push.new.self.items c.in-Some.at c.self.invariant place (omega (arith, place.within)) c.in_ok-push.ensures.items in
     p.gathered
 
 pub returns : goal.returns
 returns g c =
     let key = g.T.Keyed.key in
     let place = place_at key c.args.item c.key.result.now c.as_slice.result.now c.self.inside.sorted.items c.in-Some.at c.key.ensures c.as_slice.ensures.value c.in-Some.ensures in
-    let none : has_key key (key c.args.item) c.self.inside.late ≡ false =
-    ap (λ (w : List ℕ). has_key key w c.self.inside.late) (sym c.key-2.ensures) ∙ sym c.has.ensures ∙ c.if-has.false in
-    let p = after_last key c.args.item c.self.inside.sorted.items c.self.inside.late c.push.new.self.items c.in-Some.at c.self.invariant place (omega (arith, place.within)) none c.in_ok-push.ensures.items in
+    let p = after_last key c.args.item c.self.inside.sorted.items c.self.inside.late c.push.new.self.items c.in-Some.at c.self.invariant place (omega (arith, place.within)) c.in_ok-push.ensures.items in
     rw (← c.self.view_is) (p.absent, p.same)
