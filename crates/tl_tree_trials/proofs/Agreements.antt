@@ -10,7 +10,7 @@ use Rattle.tl_model.specs.Acks.{IsLabel, acks}
 use Rattle.tl_path.specs.Reserved.{is_reserved, reserved_paths}
 use Rattle.tl_file.specs.declared.file.FileBytes.{FileBytes}
 use Rattle.tl_journal_text.specs.Records.{is_outside}
-use Rattle.tl_object.specs.declared.object.Object.{Object}
+use Rattle.tl_entry.specs.declared.object.Object.{Object}
 use Rattle.tl_db.specs.Entries.{entry_of}
 use Rattle.tl_tree.specs.declared.change.Part.{Part}
 use Rattle.tl_tree.specs.declared.change.Part.TheVariants.{Put, Remove, Entry, Write, Erase}

@@ -2,7 +2,7 @@
 ghost use Rattle.std.specs.Prelude.{◌≡◌, ◌≢◌, List, true, false, IfOk};
 ghost use Rattle.tl_path.specs.Reserved.{is_reserved};
 ghost use Rattle.tl_journal_text.specs.Records.{is_outside};
-ghost use Rattle.tl_object.specs.declared.object.Object.{Object};
+ghost use Rattle.tl_entry.specs.declared.object.Object.{Object};
 ghost use Rattle.tl_tree.specs.Changes.{IsChange};
 
 use std::alloc::{AllocError, Global};
