@@ -80,15 +80,6 @@ impl Db {
         self.objects.as_slice()
     }
 
-    pub(crate) fn has(&self, name: &[u8]) -> bool
-        ensures { result ≡ has_key (λ o. o.name) name.now self.now }
-    {
-        match place_for(self.objects.as_slice(), name) {
-            Some(_) => false,
-            None => true,
-        }
-    }
-
     /// Adds an entry whose name no entry has.
     pub(crate) fn add(&mut self, object: Object) -> Result<(), AllocError>
         requires { has_key (λ o. o.name) object.name self.old ≡ false }
