@@ -1,30 +1,24 @@
 // The setting of an option, stopped at each of its calls, or with one of them failing.
 use crate::options::{KEPT, LABEL, MADE, SET, SHOW};
-use crate::tests::{DATABASE, host, path, words};
+use crate::tests::{DATABASE, bytes_of, path, run, run_failing, words};
 use std::alloc::Global;
 use std::process::Abort;
-use std::test::Fail;
 use tl_file::Bytes;
 use tl_memhost::{Choice, MemHost};
 use tl_tool::{Ending, texlive};
 
 // What a stop leaves at each touched name.
-fn choice(alloc: Global, number: u64) -> Result<Choice, Fail> {
-    Ok(match number {
+fn choice(rt: &impl Abort, alloc: Global, number: u64) -> Choice {
+    match number {
         0 => Choice::Kept,
         1 => Choice::Gone,
         2 => Choice::Synced,
-        3 => Choice::Fill(Bytes::new(Vec::from_slice(alloc, b"\x01")?)),
-        _ => Choice::Fill(Bytes::new(Vec::from_slice(alloc, b"E")?)),
-    })
+        3 => Choice::Fill(Bytes::new(bytes_of(rt, alloc, b"\x01"))),
+        _ => Choice::Fill(Bytes::new(bytes_of(rt, alloc, b"E"))),
+    }
 }
 
 const CHOICES: u64 = 5;
-
-// Runs these words over a host.
-fn over(alloc: Global, host: MemHost, command: &[&str]) -> Result<(Ending, MemHost), Fail> {
-    Ok(texlive(alloc, &words(alloc, command)?, host))
-}
 
 // Whether a host at rest has the tree after the step, where it has that or the empty one.
 fn is_after(rt: &impl Abort, alloc: Global, host: &MemHost) -> bool {
@@ -39,8 +33,8 @@ fn is_after(rt: &impl Abort, alloc: Global, host: &MemHost) -> bool {
 }
 
 // Another run repairs what a stop or a fault left, to the tree before the step or after it; and which.
-fn repaired(rt: &impl Abort, alloc: Global, host: MemHost) -> Result<bool, Fail> {
-    let (ending, host) = over(alloc, host, &SHOW)?;
+fn repaired(rt: &impl Abort, alloc: Global, host: MemHost) -> bool {
+    let (ending, host) = texlive(alloc, &words(rt, alloc, &SHOW), host);
     assert!(rt; ending == Ending::Done);
     let after = is_after(rt, alloc, &host);
     let said = if after {
@@ -49,61 +43,70 @@ fn repaired(rt: &impl Abort, alloc: Global, host: MemHost) -> Result<bool, Fail>
         "autobackup 0\nplatforms \n"
     };
     assert!(rt; host.said().ends_with(said.as_bytes()));
-    Ok(after)
+    after
+}
+
+// Another run repairs each image that a stop before a call could leave; how many of them to the tree after the step.
+fn made_before(rt: &impl Abort, alloc: Global, host: &MemHost, call: u64) -> u64 {
+    let mut made = 0u64;
+    for number in 0..CHOICES {
+        let stop = host.stop_at(call, &choice(rt, alloc, number));
+        if repaired(rt, alloc, stop.ok().expect(rt, "a stop")) {
+            made = made.saturating_add(1);
+        }
+    }
+    made
 }
 
 #[test]
-fn a_stopped_setting_is_made_or_not(rt: HostRuntime) -> Result<(), Fail> {
+fn a_stopped_setting_is_made_or_not(rt: HostRuntime) {
     let alloc = rt.alloc();
-    let (ending, made) = over(alloc, host(&rt, alloc, &[])?, &SET)?;
+    let (ending, made) = run(&rt, alloc, &[], &SET);
     assert!(rt; ending == Ending::Done);
     assert!(rt; is_after(&rt, alloc, &made));
     assert_eq!(rt; made.said(), LABEL.as_bytes());
     assert_eq!(rt; made.syncs(), 5);
     for call in 0..made.calls() {
-        for number in 0..CHOICES {
-            let stop = made.stop_at(call, &choice(alloc, number)?)?;
-            let after = repaired(&rt, alloc, stop)?;
-            assert!(rt; after || made.said_before(call) == 0);
-        }
+        let count = made_before(&rt, alloc, &made, call);
+        assert!(rt; count == CHOICES || made.said_before(call) == 0);
     }
-    Ok(())
 }
 
 #[test]
-fn a_failing_call_ends_the_setting_and_the_next_run_repairs_the_tree(
-    rt: HostRuntime,
-) -> Result<(), Fail> {
+fn a_failing_call_ends_the_setting_and_the_next_run_repairs_the_tree(rt: HostRuntime) {
     let alloc = rt.alloc();
-    let (_, made) = over(alloc, host(&rt, alloc, &[])?, &SET)?;
+    let (_, made) = run(&rt, alloc, &[], &SET);
     for call in 0..made.calls() {
-        let mut host = host(&rt, alloc, &[])?;
-        host.fail_at(call)?;
-        let (ending, host) = over(alloc, host, &SET)?;
+        let (ending, host) = run_failing(&rt, alloc, &SET, call);
         assert!(rt; ending == Ending::HostFault);
         let said = host.said().len();
         assert_eq!(rt; host.calls(), call + 1);
-        let after = repaired(&rt, alloc, host)?;
+        let after = repaired(&rt, alloc, host);
         assert!(rt; after || said == 0);
     }
-    Ok(())
 }
 
-#[test]
-fn a_setting_whose_third_sync_fails_says_nothing(rt: HostRuntime) -> Result<(), Fail> {
-    let alloc = rt.alloc();
-    let (_, made) = over(alloc, host(&rt, alloc, &[])?, &SET)?;
-    let mut found = 0u64;
+// The call that is the sync of this number, where the option is set over the empty host.
+fn sync_call(rt: &impl Abort, alloc: Global, syncs: u64) -> u64 {
+    let (_, made) = run(rt, alloc, &[], &SET);
     for call in 0..made.calls() {
-        let mut host = host(&rt, alloc, &[])?;
-        host.fail_at(call)?;
-        let (ending, host) = over(alloc, host, &SET)?;
-        if host.syncs() == 3 && found == 0 {
-            found = call;
-            assert_eq!(rt; ending.status(), 3);
-            assert_eq!(rt; host.said(), b"".as_slice());
+        let (_, host) = run_failing(rt, alloc, &SET, call);
+        if host.syncs() == syncs {
+            return call;
         }
     }
-    assert!(rt; found > 0);
-    Ok(())
+    panic!(rt; "no such sync")
+}
+
+// At the third sync the gate alone is touched: a stop leaves the tree after the step where the gate is open then.
+#[test]
+fn a_setting_whose_third_sync_fails_says_nothing(rt: HostRuntime) {
+    let alloc = rt.alloc();
+    let call = sync_call(&rt, alloc, 3);
+    let (ending, host) = run_failing(&rt, alloc, &SET, call);
+    assert!(rt; ending == Ending::HostFault);
+    assert_eq!(rt; ending.status(), 3);
+    assert_eq!(rt; host.said(), b"".as_slice());
+    assert_eq!(rt; host.calls(), call.saturating_add(1));
+    assert_eq!(rt; made_before(&rt, alloc, &host, host.calls()), 2);
 }

@@ -1,6 +1,5 @@
 use std::alloc::Global;
 use std::process::Abort;
-use std::test::Fail;
 use tl_file::{Bytes, FileBytes};
 use tl_host::read_file;
 use tl_memhost::MemHost;
@@ -16,29 +15,30 @@ pub(crate) fn path(rt: &impl Abort, alloc: Global, name: &str) -> Path {
 }
 
 // A host that holds these files.
-pub(crate) fn host(
-    rt: &impl Abort,
-    alloc: Global,
-    files: &[(&str, &[u8])],
-) -> Result<MemHost, Fail> {
+pub(crate) fn host(rt: &impl Abort, alloc: Global, files: &[(&str, &[u8])]) -> MemHost {
     let mut made = Vec::new(alloc);
     for (name, bytes) in files {
-        let bytes = Bytes::new(Vec::from_slice(alloc, bytes)?);
-        made.push(FileBytes {
+        let added = made.push(FileBytes {
             path: path(rt, alloc, name),
-            bytes,
-        })?;
+            bytes: Bytes::new(bytes_of(rt, alloc, bytes)),
+        });
+        added.ok().expect(rt, "memory");
     }
-    Ok(MemHost::new(alloc, made).ok().expect(rt, "a host"))
+    MemHost::new(alloc, made).ok().expect(rt, "a host")
+}
+
+pub(crate) fn bytes_of(rt: &impl Abort, alloc: Global, bytes: &[u8]) -> Vec<u8> {
+    Vec::from_slice(alloc, bytes).ok().expect(rt, "memory")
 }
 
 // These words, as bytes.
-pub(crate) fn words(alloc: Global, words: &[&str]) -> Result<Vec<Vec<u8>>, Fail> {
+pub(crate) fn words(rt: &impl Abort, alloc: Global, words: &[&str]) -> Vec<Vec<u8>> {
     let mut all = Vec::new(alloc);
     for word in words {
-        all.push(Vec::from_slice(alloc, word.as_bytes())?)?;
+        let added = all.push(bytes_of(rt, alloc, word.as_bytes()));
+        added.ok().expect(rt, "memory");
     }
-    Ok(all)
+    all
 }
 
 // Runs these words over these files.
@@ -47,8 +47,21 @@ pub(crate) fn run(
     alloc: Global,
     files: &[(&str, &[u8])],
     command: &[&str],
-) -> Result<(Ending, MemHost), Fail> {
-    Ok(texlive(alloc, &words(alloc, command)?, host(rt, alloc, files)?))
+) -> (Ending, MemHost) {
+    let words = words(rt, alloc, command);
+    texlive(alloc, &words, host(rt, alloc, files))
+}
+
+// Runs these words over the empty host, of which this call fails.
+pub(crate) fn run_failing(
+    rt: &impl Abort,
+    alloc: Global,
+    command: &[&str],
+    call: u64,
+) -> (Ending, MemHost) {
+    let mut host = host(rt, alloc, &[]);
+    host.fail_at(call).ok().expect(rt, "memory");
+    texlive(alloc, &words(rt, alloc, command), host)
 }
 
 // Runs these words over these files, and compares what is said and the status.
@@ -59,11 +72,10 @@ pub(crate) fn expect(
     command: &[&str],
     said: &str,
     status: u8,
-) -> Result<(), Fail> {
-    let (ending, host) = run(rt, alloc, files, command)?;
+) {
+    let (ending, host) = run(rt, alloc, files, command);
     assert_eq!(rt; host.said(), said.as_bytes());
     assert_eq!(rt; ending.status(), status);
-    Ok(())
 }
 
 const CANONICAL: &str = "name a
@@ -108,7 +120,7 @@ runfiles size=2
 const DUMP: [&str; 3] = ["T", "dump-tlpdb", "--local"];
 
 #[test]
-fn faulty_words_are_refused_at_their_place(rt: HostRuntime) -> Result<(), Fail> {
+fn faulty_words_are_refused_at_their_place(rt: HostRuntime) {
     let alloc = rt.alloc();
     expect(
         &rt,
@@ -117,7 +129,7 @@ fn faulty_words_are_refused_at_their_place(rt: HostRuntime) -> Result<(), Fail> 
         &["T", "info"],
         "tlmgr: BadWords at=1 kind=Action\n",
         2,
-    )?;
+    );
     expect(
         &rt,
         alloc,
@@ -125,14 +137,14 @@ fn faulty_words_are_refused_at_their_place(rt: HostRuntime) -> Result<(), Fail> 
         &["T", "dump-tlpdb"],
         "tlmgr: BadWords at=2 kind=Option\n",
         2,
-    )?;
+    );
     expect(&rt, alloc, &[], &[], "tlmgr: BadWords at=0 kind=Root\n", 2)
 }
 
 #[test]
-fn a_database_is_printed_in_its_canonical_form(rt: HostRuntime) -> Result<(), Fail> {
+fn a_database_is_printed_in_its_canonical_form(rt: HostRuntime) {
     let alloc = rt.alloc();
-    expect(&rt, alloc, &[], &DUMP, "", 0)?;
+    expect(&rt, alloc, &[], &DUMP, "", 0);
     expect(
         &rt,
         alloc,
@@ -140,7 +152,7 @@ fn a_database_is_printed_in_its_canonical_form(rt: HostRuntime) -> Result<(), Fa
         &["T", "-local", "dump-tlpdb"],
         "",
         0,
-    )?;
+    );
     expect(
         &rt,
         alloc,
@@ -148,7 +160,7 @@ fn a_database_is_printed_in_its_canonical_form(rt: HostRuntime) -> Result<(), Fa
         &DUMP,
         CANONICAL,
         0,
-    )?;
+    );
     expect(
         &rt,
         alloc,
@@ -160,7 +172,7 @@ fn a_database_is_printed_in_its_canonical_form(rt: HostRuntime) -> Result<(), Fa
 }
 
 #[test]
-fn a_bad_database_is_refused_at_its_first_bad_line(rt: HostRuntime) -> Result<(), Fail> {
+fn a_bad_database_is_refused_at_its_first_bad_line(rt: HostRuntime) {
     let alloc = rt.alloc();
     let key = b"name a\ncategory Package\nrevision 1\ncolour red\n";
     expect(
@@ -170,7 +182,7 @@ fn a_bad_database_is_refused_at_its_first_bad_line(rt: HostRuntime) -> Result<()
         &DUMP,
         "tlmgr: BadDatabase line=4 kind=Key\n",
         1,
-    )?;
+    );
     let name = b"name a\ncategory Package\nrevision 1\n\nname a\n";
     expect(
         &rt,
@@ -183,24 +195,21 @@ fn a_bad_database_is_refused_at_its_first_bad_line(rt: HostRuntime) -> Result<()
 }
 
 #[test]
-fn a_failing_call_ends_in_a_fault_and_nothing_else(rt: HostRuntime) -> Result<(), Fail> {
+fn a_failing_call_ends_in_a_fault_and_nothing_else(rt: HostRuntime) {
     let alloc = rt.alloc();
     for call in 0..3u64 {
-        let mut host = host(&rt, alloc, &[])?;
-        host.fail_at(call)?;
-        let (ending, host) = texlive(alloc, &words(alloc, &["T", "dump-tlpdb", "--local"])?, host);
+        let (ending, host) = run_failing(&rt, alloc, &DUMP, call);
         assert!(rt; ending == Ending::HostFault);
         assert_eq!(rt; host.said(), [].as_slice());
         assert_eq!(rt; host.calls(), call + 1);
     }
-    Ok(())
 }
 
 #[test]
-fn a_file_of_several_pieces_is_read_whole(rt: HostRuntime) -> Result<(), Fail> {
+fn a_file_of_several_pieces_is_read_whole(rt: HostRuntime) {
     let alloc = rt.alloc();
-    let long = vec![in alloc; 7u8; 70000]?;
-    let mut host = host(&rt, alloc, &[("a", long.as_slice())])?;
+    let long = vec![in alloc; 7u8; 70000].ok().expect(&rt, "memory");
+    let mut host = host(&rt, alloc, &[("a", long.as_slice())]);
     let read = read_file(alloc, &mut host, PathRef::known("a"), 70000)
         .ok()
         .expect(&rt, "a read");
@@ -212,5 +221,4 @@ fn a_file_of_several_pieces_is_read_whole(rt: HostRuntime) -> Result<(), Fail> {
             .expect(&rt, "a read")
             .is_none()
     );
-    Ok(())
 }
