@@ -1,6 +1,6 @@
 -- Changes that a step takes.
 use Rattle.std.proofs.Common.{◌≡◌, ◌≢◌, ℕ, Bool, true, false, List, [], ◌∷◌, ◌++◌, refl, sym, ◌∙◌, ap, subst}
-use Rattle.std.specs.Prelude.{AllPairs, codes, map}
+use Rattle.std.specs.Prelude.{AllPairs, codes}
 use Rattle.std.specs.List.{AllByRecursion}
 use Rattle.std.proofs.lemmas.Bool.{true≢false}
 use Rattle.std.proofs.lemmas.List.Elements.{All-from_recursion}
@@ -9,12 +9,10 @@ use Rattle.tl_model.specs.Volume.{Name, same_name, same_name-refl}
 use Rattle.tl_model.specs.Acks.{IsLabel, acks}
 use Rattle.tl_path.specs.Reserved.{is_reserved, reserved_paths}
 use Rattle.tl_file.specs.declared.file.FileBytes.{FileBytes}
-use Rattle.tl_journal_text.specs.Records.{is_outside}
 use Rattle.tl_entry.specs.declared.object.Object.{Object}
 use Rattle.tl_db.specs.Entries.{entry_of}
-use Rattle.tl_tree.specs.declared.change.Part.{Part}
 use Rattle.tl_tree.specs.declared.change.Part.TheVariants.{Put, Remove, Entry, Write, Erase}
-use Rattle.tl_tree.specs.Changes.{IsChange, names_of, made, own_of, entries_after}
+use Rattle.tl_tree.specs.Changes.{IsChange, own_of}
 use Rattle.tl_tree.proofs.Outside.{reserved_outside, own_outside, outside_append}
 
 -- the names of the database and the files made from it

@@ -1,7 +1,6 @@
 // Changes whose conditions are seen to hold when they are made.
-ghost use Rattle.std.specs.Prelude.{◌≡◌, ◌≢◌, List, true, false, IfOk};
+ghost use Rattle.std.specs.Prelude.{◌≡◌, ◌≢◌, List, false, IfOk};
 ghost use Rattle.tl_path.specs.Reserved.{is_reserved};
-ghost use Rattle.tl_journal_text.specs.Records.{is_outside};
 ghost use Rattle.tl_entry.specs.declared.object.Object.{Object};
 ghost use Rattle.tl_tree.specs.Changes.{IsChange};
 
@@ -12,7 +11,7 @@ use tl_object::Object;
 use tl_path::{Name, Path};
 use tl_tree::{Change, Part, PartList};
 
-pub(crate) const LABEL: &[u8] = b"step 1/1 edit done\n";
+const LABEL: &[u8] = b"step 1/1 edit done\n";
 
 // The path is neither reserved nor the journal's.
 fn free(rt: &impl Abort, path: &Path)

@@ -2,7 +2,6 @@ use crate::agreed::{Parts, each_kind};
 use std::alloc::Global;
 use std::process::Abort;
 use tl_file::{Bytes, FileBytes};
-use tl_host::Host;
 use tl_journal::Journal;
 use tl_memhost::MemHost;
 use tl_object::{Object, read_object};
