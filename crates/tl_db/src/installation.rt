@@ -28,7 +28,7 @@ fn no_files(alloc: Global) -> Files
 {
     Files {
         blocks: 0,
-        paths: Paths::new(Vec::new(alloc)),
+        paths: Paths::new(alloc),
     }
 }
 

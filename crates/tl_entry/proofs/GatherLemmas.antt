@@ -199,15 +199,18 @@ module _ {A : Type 0} (key : A → Text) where
   -- what an element leaves that goes to the late ones, unless its key is among theirs
   pub after_late : {E : Type 0} (r : Result Bool E) (x : A) (sorted late late' : List A) (at : ℕ) → AreGathered key sorted late → IsPlace key (key x) sorted at → at < length sorted
       → IfOk r (λ added. MatchBool added ((has_key key (key x) late ≡ false) × (late' ≡ late ++ x ∷ [])) ((has_key key (key x) late ≡ true) × (late' ≡ late))) → OnErr r (late' ≡ late)
-      → AreGathered key sorted late' × IfOk r (λ added. MatchBool added
+      → AreGathered key sorted late' × (IfOk r (λ added. MatchBool added
       ((has_key key (key x) (with_all key late sorted) ≡ false) × (with_all key late' sorted ≡ insert_by key x (with_all key late sorted)))
-      (has_key key (key x) (with_all key late sorted) ≡ true))
+      ((has_key key (key x) (with_all key late sorted) ≡ true) × (with_all key late' sorted ≡ with_all key late sorted)))
+      × OnErr r (with_all key late' sorted ≡ with_all key late sorted))
   after_late (Ok true) x sorted late late' at old place lt ok err =
       let p = added_late x sorted late at old place lt ok.0 in
-      (subst (λ (l : List A). AreGathered key sorted l) (sym ok.1) p.1, (p.0.absent, ap (λ (l : List A). with_all key l sorted) ok.1 ∙ p.0.same))
-  after_late (Ok false) x sorted late late' at old place lt ok err =
-      (subst (λ (l : List A). AreGathered key sorted l) (sym ok.1) old, has-with_all (key x) late sorted ∙ ap (λ t. t || has_key key (key x) sorted) ok.0)
-  after_late (Err e) x sorted late late' at old place lt ok err = (subst (λ (l : List A). AreGathered key sorted l) (sym err) old, tt)
+      (subst (λ (l : List A). AreGathered key sorted l) (sym ok.1) p.1, ((p.0.absent, ap (λ (l : List A). with_all key l sorted) ok.1 ∙ p.0.same), tt))
+  after_late (Ok false) x sorted late late' at old place lt ok err = (
+    subst (λ (l : List A). AreGathered key sorted l) (sym ok.1) old,
+    ((has-with_all (key x) late sorted ∙ ap (λ t. t || has_key key (key x) sorted) ok.0, ap (λ (l : List A). with_all key l sorted) ok.1), tt),
+  )
+  after_late (Err e) x sorted late late' at old place lt ok err = (subst (λ (l : List A). AreGathered key sorted l) (sym err) old, (tt, ap (λ (l : List A). with_all key l sorted) err))
 
 is_eq-back : (a b : Text) → is_eq (slice_cmp nat_cmp a b) ≡ same_name b a
 is_eq-back a b = sym (ap is_eq (nat_list_cmp_total.antisymm b a) ∙ turned (slice_cmp nat_cmp a b))

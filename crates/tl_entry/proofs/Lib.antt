@@ -2,3 +2,4 @@ pub mod RisingLemmas
 pub mod SetLemmas
 pub mod GatherLemmas
 pub mod OrderLemmas
+pub mod TableLemmas

@@ -1,5 +1,5 @@
 -- The small forms that stand in an entry's lines.
-use Rattle.std.specs.Prelude.{ℕ, ◌==◌, ◌&&◌, ◌||◌, not, nat_le, nat_lt, Bool, true, false, List, [], ◌∷◌, length, Option, Some, None}
+use Rattle.std.specs.Prelude.{ℕ, ◌==◌, ◌&&◌, ◌||◌, not, nat_le, nat_lt, Bool, true, List, length, Option, Some, None}
 use Rattle.std.specs.List.{list_all}
 use Rattle.tl_path.specs.Bytes.{is_lower_or_digit}
 

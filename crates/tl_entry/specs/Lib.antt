@@ -5,3 +5,5 @@ pub mod Gathering
 pub mod Sections
 pub mod Copies
 pub mod FilePaths
+pub mod Table
+pub mod Left

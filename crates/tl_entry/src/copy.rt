@@ -2,7 +2,7 @@
 ghost use Rattle.std.specs.Prelude.{◌≡◌, IfOk};
 ghost use Rattle.tl_entry.specs.Copies.{less_containers};
 
-use crate::lists::{BinList, DocFileList, Facts, Paths, Texts};
+use crate::lists::{BinList, DocFileList, Facts, Texts};
 use crate::object::{BinFiles, Container, DocFile, DocFiles, Fact, Files, Object};
 use std::alloc::{AllocError, Global};
 use tl_path::Path;
@@ -97,15 +97,6 @@ impl Facts {
         ensures { IfOk result (λ copy. copy ≡ self.now) }
     {
         Ok(Facts::new(copies(alloc, self.as_slice())?))
-    }
-}
-
-impl Paths {
-    /// An equal list.
-    pub fn copy(&self, alloc: Global) -> Result<Paths, AllocError>
-        ensures { IfOk result (λ copy. copy ≡ self.now) }
-    {
-        Ok(Paths::new(copies(alloc, self.as_slice())?))
     }
 }
 

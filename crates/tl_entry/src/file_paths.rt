@@ -6,15 +6,20 @@ ghost use Rattle.tl_entry.specs.Sections.{paths_of};
 ghost use Rattle.tl_entry.specs.FilePaths.{listed_paths, file_paths};
 
 use crate::object::{BinFiles, DocFile, Object};
+use crate::paths::Paths;
 use std::alloc::{AllocError, Global};
 use tl_path::Path;
 
-fn append_paths(out: &mut Vec<Path>, paths: &[Path]) -> Result<(), AllocError>
+pub(crate) fn append_paths(
+    alloc: Global,
+    out: &mut Vec<Path>,
+    paths: &Paths,
+) -> Result<(), AllocError>
     ensures { OnOk result (out.new.items ≡ out.old.items ++ paths.now) }
 {
     out.reserve(paths.len())?;
-    for path in paths {
-        out.push(path.clone()?)?;
+    for path in paths.iter() {
+        out.push(path.to_path(alloc)?)?;
     }
     Ok(())
 }
@@ -29,11 +34,11 @@ fn append_doc_paths(out: &mut Vec<Path>, files: &[DocFile]) -> Result<(), AllocE
     Ok(())
 }
 
-fn append_bin_paths(out: &mut Vec<Path>, bins: &[BinFiles]) -> Result<(), AllocError>
+fn append_bin_paths(alloc: Global, out: &mut Vec<Path>, bins: &[BinFiles]) -> Result<(), AllocError>
     ensures { OnOk result (out.new.items ≡ out.old.items ++ flat_map (λ bin. bin.paths) bins.now) }
 {
     for bin in bins {
-        append_paths(out, bin.paths.as_slice())?;
+        append_paths(alloc, out, &bin.paths)?;
     }
     Ok(())
 }
@@ -43,10 +48,10 @@ impl Object {
         ensures { IfOk result (λ paths. paths.items ≡ listed_paths self.now) }
     {
         let mut paths = Vec::new(alloc);
-        append_paths(&mut paths, self.run.paths.as_slice())?;
+        append_paths(alloc, &mut paths, &self.run.paths)?;
         append_doc_paths(&mut paths, self.doc.files.as_slice())?;
-        append_paths(&mut paths, self.src.paths.as_slice())?;
-        append_bin_paths(&mut paths, self.bin.as_slice())?;
+        append_paths(alloc, &mut paths, &self.src.paths)?;
+        append_bin_paths(alloc, &mut paths, self.bin.as_slice())?;
         Ok(paths)
     }
 

@@ -1,5 +1,5 @@
 //! Elements that come in any order, and rise by their keys.
-ghost use Rattle.std.specs.Prelude.{◌≡◌, ◌∷◌, [], true, false, IfOk, OnOk, MatchBool};
+ghost use Rattle.std.specs.Prelude.{◌≡◌, ◌∷◌, [], true, false, IfOk, OnOk, OnErr, MatchBool};
 ghost use Rattle.std.specs.Cmp.Lexicographic.{slice_cmp};
 ghost use Rattle.std.specs.Ordering.{nat_cmp};
 ghost use Rattle.tl_entry.specs.Rising.{is_rising, has_key, insert_by};
@@ -52,11 +52,13 @@ impl<T: Keyed + Drop> Gathered<T> {
         }
     }
 
-    /// Puts an element in its place, unless one has its key already: then the answer is `false`.
+    /// Puts an element in its place, unless one has its key already: then the answer is `false`, and nothing changes. Where
+    /// memory runs out nothing changes.
     pub fn add(&mut self, alloc: Global, item: T) -> Result<bool, AllocError>
-        ensures { IfOk result (λ added. MatchBool added
+        ensures ok { IfOk result (λ added. MatchBool added
             ((has_key T.key (T.key item) self.old ≡ false) × (self.new ≡ insert_by T.key item self.old))
-            (has_key T.key (T.key item) self.old ≡ true)) }
+            ((has_key T.key (T.key item) self.old ≡ true) × (self.new ≡ self.old))) }
+        ensures err { OnErr result (self.new ≡ self.old) }
     {
         let Some(at) = place_for(self.sorted.as_slice(), item.key()) else {
             return Ok(false);
@@ -68,10 +70,11 @@ impl<T: Keyed + Drop> Gathered<T> {
         Ok(true)
     }
 
-    /// Puts an element in its place. None has its key yet.
+    /// Puts an element in its place. None has its key yet. Where memory runs out nothing changes.
     pub fn put(&mut self, alloc: Global, item: T) -> Result<(), AllocError>
         requires { has_key T.key (T.key item) self.old ≡ false }
-        ensures { OnOk result (self.new ≡ insert_by T.key item self.old) }
+        ensures ok { OnOk result (self.new ≡ insert_by T.key item self.old) }
+        ensures err { OnErr result (self.new ≡ self.old) }
     {
         if self.add(alloc, item)? {
             Ok(())
@@ -106,7 +109,7 @@ fn sort_by_keys<T: Keyed>(items: &mut Vec<T>)
     items.sort_unstable_by(by_key::<T>);
 }
 
-fn in_order<T: Keyed + Drop>(sorted: Vec<T>, late: Vec<T>) -> Result<Vec<T>, AllocError>
+pub(crate) fn in_order<T: Keyed + Drop>(sorted: Vec<T>, late: Vec<T>) -> Result<Vec<T>, AllocError>
     requires { is_rising T.key (with_all T.key late.items sorted.items) ≡ true }
     ensures { IfOk result (λ items. items.items ≡ with_all T.key late.items sorted.items) }
 {

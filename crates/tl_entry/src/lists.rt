@@ -1,10 +1,10 @@
 //! The lists that an entry is made of.
-ghost use Rattle.std.specs.Prelude.{◌≡◌, ◌++◌, ◌∷◌, [], true, IfOk, OnOk, map};
+ghost use Rattle.std.specs.Prelude.{◌≡◌, ◌++◌, ◌∷◌, [], true, OnOk};
 ghost use Rattle.tl_entry.specs.Rising.{is_rising};
 
 use crate::object::{BinFiles, DocFile, Fact, Object};
 use crate::rising::Keyed;
-use std::alloc::{AllocError, Global};
+use std::alloc::AllocError;
 use std::marker::Model;
 use tl_path::Path;
 use tl_text::Text;
@@ -100,48 +100,6 @@ impl Facts {
     }
 }
 
-/// Paths in rising order of their bytes, each once.
-#[derive(Drop)]
-pub struct Paths {
-    items: Vec<Path>,
-}
-
-impl Model for Paths {
-    ghost use Rattle.std.specs.Prelude.{◌≡◌, ℕ, List, true};
-    ghost use Rattle.tl_entry.specs.Rising.{is_rising};
-
-    ghost Value = { List (List ℕ) };
-
-    ghost view = { λ a. a.items.items };
-
-    ghost invariant = { λ a. is_rising (λ path. path) a.items.items ≡ true };
-}
-
-impl Paths {
-    /// The list of these elements, which rise strictly. Takes no memory.
-    pub fn new(items: Vec<Path>) -> Self
-        requires { is_rising (λ path. path) items.items ≡ true }
-        ensures { result ≡ items.items }
-    {
-        Paths { items }
-    }
-
-    /// The elements. Takes no memory.
-    pub fn as_slice(&self) -> &[Path]
-        ensures items { result.now ≡ self.now }
-        ensures rising { is_rising (λ path. path) self.now ≡ true }
-    {
-        self.items.as_slice()
-    }
-
-    /// The elements, given back. Takes no memory.
-    pub fn into_vec(self) -> Vec<Path>
-        ensures { result.items ≡ self }
-    {
-        self.items
-    }
-}
-
 /// Documentation files in rising order of their paths, each path once.
 #[derive(Drop)]
 pub struct DocFileList {
@@ -228,6 +186,14 @@ impl BinList {
     }
 }
 
+impl Keyed for Path {
+    ghost key = { λ path. path };
+
+    fn key(&self) -> &[u8] {
+        self.bytes()
+    }
+}
+
 impl Keyed for DocFile {
     ghost key = { λ file. file.path };
 
@@ -250,29 +216,4 @@ impl Keyed for BinFiles {
     fn key(&self) -> &[u8] {
         self.platform.bytes()
     }
-}
-
-impl DocFileList {
-    /// The paths alone.
-    pub fn into_paths(self, alloc: Global) -> Result<Paths, AllocError>
-        ensures { IfOk result (λ paths. paths ≡ map (λ f. f.path) self) }
-    {
-        let paths = paths_of(alloc, self.items)?;
-        Ok(Paths { items: paths })
-    }
-}
-
-fn paths_of(alloc: Global, files: Vec<DocFile>) -> Result<Vec<Path>, AllocError>
-    ensures { IfOk result (λ paths. paths.items ≡ map (λ f. f.path) files.items) }
-{
-    let mut paths = Vec::with_capacity(alloc, files.len())?;
-    for file in files {
-        let DocFile {
-            path,
-            details: _,
-            language: _,
-        } = file;
-        paths.push(path)?;
-    }
-    Ok(paths)
 }

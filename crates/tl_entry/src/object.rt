@@ -1,5 +1,6 @@
 //! An entry of the database.
-use crate::lists::{BinList, DocFileList, Facts, Paths, Texts};
+use crate::lists::{BinList, DocFileList, Facts, Texts};
+use crate::paths::Paths;
 use std::marker::Model;
 use tl_path::{Category, Name, Path, Platform};
 use tl_text::Text;

@@ -13,7 +13,7 @@ pub trait Keyed {
 }
 
 // The last element comes first, since most lists come in order.
-fn next_try(low: usize, high: usize, len: usize) -> usize
+pub(crate) fn next_try(low: usize, high: usize, len: usize) -> usize
     requires { low < high }
     ensures { (low ≤ result) × (result < high) }
 {

@@ -12,7 +12,7 @@ use Rattle.tl_entry.specs.Rising.{is_rising, insert_by}
 use Rattle.tl_object.specs.Values.{◌>>=◌}
 use Rattle.tl_object.specs.Grammar.{line_value}
 use Rattle.tl_object.specs.Groups.{Group, only, name_of, is_repeated}
-use Rattle.tl_object.specs.Reading.{placed, place_of, one_more, with_line, next_groups, at_line, reading, entry_groups, first_name, named, name_at}
+use Rattle.tl_object.specs.Reading.{Place, placed, place_of, one_more, with_line, next_groups, at_line, reading, entry_groups, first_name, named, name_at}
 use Rattle.tl_object.specs.Steps.{file_in}
 use Rattle.tl_object.specs.Built.{built, put}
 use Rattle.tl_object.specs.Known.{is_known}
@@ -21,7 +21,6 @@ use Rattle.tl_object.specs.Formed.{IsFormedFile}
 use Rattle.tl_object.specs.Writing.{file_line, key_line}
 use Rattle.tl_object.specs.declared.fault.LineKind.{LineKind}
 use Rattle.tl_object.specs.declared.fault.LineKind.TheVariants as kinds
-use Rattle.tl_object.specs.declared.head.Place.{Place}
 use Rattle.tl_object.specs.declared.head.Head.{Head}
 use Rattle.tl_object.specs.declared.head.Head.TheVariants as heads
 use Rattle.tl_object.specs.declared.head.Line.{Line}

@@ -11,17 +11,14 @@ use Rattle.tl_path.specs.Path.{IsPath}
 use Rattle.tl_path.specs.declared.kinds.Category.{Category}
 use Rattle.tl_entry.specs.Parts.{FileEntry, FactEntry}
 use Rattle.tl_entry.specs.Rising.{is_rising, insert_by}
-use Rattle.tl_entry.specs.Sections.{paths_of}
 use Rattle.tl_object.specs.Built.{put}
 use Rattle.tl_object.specs.Known.{is_known, container_of}
-use Rattle.tl_object.specs.Reading.{place_of}
+use Rattle.tl_object.specs.Reading.{Place, Plain, Marked, place_of}
 use Rattle.tl_object.specs.Writing.{key_line, number_line, text_line, text_lines, category_word, size_line, digest_line, container_lines, path_line, file_line, section_line, files_lines, doc_lines, bin_line, bin_lines, fact_line, relocated_line}
 use Rattle.tl_object.specs.Formed.{IsFormedText, IsFormedSize, IsFormedDigest, IsFormedBox, IsFormedFile, IsFormedDoc, IsFormedSection, IsFormedBin, IsFormedFact}
 use Rattle.tl_object.specs.declared.fault.LineKind.TheVariants as kinds
 use Rattle.tl_object.specs.declared.head.Head.{Head}
 use Rattle.tl_object.specs.declared.head.Head.TheVariants as heads
-use Rattle.tl_object.specs.declared.head.Place.{Place}
-use Rattle.tl_object.specs.declared.head.Place.TheVariants.{Plain, Marked}
 use Rattle.tl_object.specs.declared.key.Part.{Part}
 use Rattle.tl_object.specs.declared.key.Part.TheVariants.{Run, Doc, Src}
 use Rattle.tl_entry.specs.declared.object.Container.{Container}
@@ -30,6 +27,8 @@ use Rattle.tl_entry.specs.declared.object.DocFiles.{DocFiles}
 use Rattle.tl_entry.specs.declared.object.BinFiles.{BinFiles}
 use Rattle.tl_object.specs.declared.builder.Builder.{Builder}
 use Rattle.tl_entry.proofs.RisingLemmas.{rising-map}
+use Rattle.tl_object.specs.Steps.{bare}
+use Rattle.tl_object.proofs.BareLemmas.{paths-bare}
 use Rattle.tl_object.proofs.LastLemmas.{insert-last, absent-last, rising-tail, Follows, follows-next}
 use Rattle.tl_object.proofs.HeadLemmas.{IsHead, text_head, category_head, revision_head, relocated_head, size_key, size_head, digest_key, digest_head, files_key, files_head, sized, arched, bin_head, fact_head, formed_by}
 use Rattle.tl_object.proofs.AgainLemmas.{Leads, leads-nil, leads-append, leads-line, leads-section, Allowed}
@@ -192,14 +191,6 @@ leads-box b part box new is =
     (leads-digest between part box.digest (ap (λ (c : Container). c.digest) (here ∙ ap (λ (c : Container). record c { size = box.size }) new)) is.digest))
 
 -- ---- sections
-
--- a file without marks
-abbrev pub bare : List ℕ → FileEntry
-bare path = record { path = path; details = None; language = None }
-
-paths-bare : (paths : List (List ℕ)) → paths_of (map bare paths) ≡ paths
-paths-bare [] = refl
-paths-bare (path ∷ paths) = ap (λ (ps : List (List ℕ)). path ∷ ps) (paths-bare paths)
 
 formed-bare : (paths : List (List ℕ)) → All IsPath paths → All IsFormedFile (map bare paths)
 formed-bare [] each = All-nil IsFormedFile

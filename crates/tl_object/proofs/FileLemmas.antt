@@ -82,7 +82,7 @@ no_space path is = unspaced path (unbarred path is)
 path_again : (path : List ℕ) → IsPath path → path_value path ≡ Ok path
 path_again path is = ap (λ (o : Option PathFault). formed (is_none o) path kinds.File) is
 
-abbrev entry : List ℕ → Option (List ℕ) → Option (List ℕ) → FileEntry
+abbrev pub entry : List ℕ → Option (List ℕ) → Option (List ℕ) → FileEntry
 entry path details language = record { path = path; details = details; language = language }
 
 -- a file with marks behind its path
@@ -93,12 +93,16 @@ marked path back details language is marks =
     ∙ ap (λ (r : Result (List ℕ) LineKind). r >>= λ p. marked_file p back) (path_again path is)
     ∙ ap (λ (r : Result Marks LineKind). r >>= λ m. Ok (entry path m.0 m.1)) marks
 
+-- a path alone is a file without marks
+pub file_alone : (path : List ℕ) → IsPath path → file_value path ≡ Ok (entry path None None)
+file_alone path is =
+    ap (file_with path) (cut_nowhere 32 path (no_space path is))
+    ∙ ap (λ (r : Result (List ℕ) LineKind). r >>= λ p. Ok (entry p None None)) (path_again path is)
+
 file_again : (path : List ℕ) (details language : Option (List ℕ)) → IsPath path → IfSome details IsMark → IfSome language IsMark
     → file_value (path ++ mark_text (codes "details=\"") details ++ mark_text (codes "language=\"") language) ≡ Ok (entry path details language)
 file_again path None None is first second =
-    ap file_value (append-nil (path ++ []) ∙ append-nil path)
-    ∙ ap (file_with path) (cut_nowhere 32 path (no_space path is))
-    ∙ ap (λ (r : Result (List ℕ) LineKind). r >>= λ p. Ok (entry p None None)) (path_again path is)
+    ap file_value (append-nil (path ++ []) ∙ append-nil path) ∙ file_alone path is
 file_again path (Some details) None is first second =
     ap file_value (append-nil (path ++ mark_text (codes "details=\"") (Some details)))
     ∙ marked path (codes "details=\"" ++ details ++ 34 ∷ []) (Some details) None is (details_alone details first)

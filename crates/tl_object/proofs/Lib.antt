@@ -1,6 +1,7 @@
 pub mod CutLemmas
 pub mod LineLemmas
 pub mod BuiltLemmas
+pub mod BareLemmas
 pub mod ReadingLemmas
 pub mod StretchLemmas
 pub mod PlainLemmas

@@ -1,12 +1,12 @@
 -- Steps of the reading of an entry.
-use Rattle.std.proofs.Common.{◌≡◌, ℕ, Bool, true, false, cond, not, List, [], ◌∷◌, ◌++◌, Result, Ok, Err, refl, sym, ap, subst, ◌∙◌}
+use Rattle.std.proofs.Common.{◌≡◌, ℕ, Bool, true, false, cond, not, ◌⊎◌, inl, inr, List, [], ◌∷◌, ◌++◌, Result, Ok, Err, refl, sym, ap, subst, ◌∙◌}
 use Rattle.std.specs.Prelude.{is_some}
 use Rattle.std.specs.Str.{is_utf8}
 use Rattle.tl_entry.specs.Parts.{FileEntry}
 use Rattle.tl_object.specs.Values.{◌>>=◌, Fails}
 use Rattle.tl_object.specs.Grammar.{line_value, line_form, head_value, file_value}
 use Rattle.tl_object.specs.Groups.{Group, only, name_of}
-use Rattle.tl_object.specs.Reading.{placed, place_of, with_file, with_line, next_groups, at_line, reading, entry_groups, as_object, first_name, name_at, FailsAt}
+use Rattle.tl_object.specs.Reading.{Place, Nowhere, placed, place_of, with_file, with_line, next_groups, at_line, reading, entry_groups, as_object, first_name, name_at, FailsAt}
 use Rattle.tl_object.specs.Steps.{is_file_line, file_step, file_in, head_step, head_in, head_is_next, IsSection, fault_at}
 use Rattle.tl_object.specs.declared.fault.ObjectError.TheVariants as errors
 use Rattle.tl_entry.specs.declared.object.Object.{Object}
@@ -17,13 +17,12 @@ use Rattle.tl_object.specs.declared.fault.LineKind.TheVariants as kinds
 use Rattle.tl_object.specs.declared.fault.ObjectError.{ObjectError}
 use Rattle.tl_object.specs.declared.fault.LineFault.{LineFault}
 use Rattle.tl_object.specs.declared.fault.LineFault.TheVariants as faults
-use Rattle.tl_object.specs.declared.head.Place.{Place}
-use Rattle.tl_object.specs.declared.head.Place.TheVariants.{Nowhere}
 use Rattle.tl_object.specs.declared.head.Head.{Head}
 use Rattle.tl_object.specs.declared.head.Head.TheVariants as heads
 use Rattle.tl_object.specs.declared.head.Line.{Line}
 use Rattle.tl_object.specs.declared.head.Line.TheVariants as lines
 use Rattle.tl_object.specs.declared.builder.Builder.{Builder}
+use Rattle.std.proofs.lemmas.Bool.{true≢false}
 use Rattle.tl_object.proofs.BuiltLemmas.{built-put, known-repeated, named-more, put-name}
 
 abbrev pub group : Head → List FileEntry → Group
@@ -138,22 +137,22 @@ pub record Reached (groups : List Group) (builder : Builder) (all left : List (�
   pub kept : builder ≡ built groups
   pub named : is_some (only name_of groups) ≡ true
   pub same : entry_groups all ≡ reading groups left
-  pub next : head_is_next left ≡ true
   pub some : Behind groups
+  pub next : (place_of some.1.0.head ≡ Nowhere) ⊎ (head_is_next left ≡ true)
   pub name : (line : ℕ) × (first_name all ≡ Ok (line, builder.name))
 
 abbrev name_of_parts : ℕ → Builder → Result (ℕ × List ℕ) (ℕ × LineKind)
 name_of_parts number builder = Ok (number, builder.name)
 
-pub reached-name : (name : List ℕ) (builder : Builder) (files : List FileEntry) (number : ℕ) (line : List ℕ) (all rest left : List (ℕ × List ℕ)) → all ≡ (number, line) ∷ rest
-    → next_groups [] line ≡ Ok (group (heads.Name name) [] ∷ []) → IsSection Nowhere files rest left → head_is_next left ≡ true → builder ≡ record (built []) { name = name }
-    → Reached (group (heads.Name name) files ∷ []) builder all left
-reached-name name builder files number line all rest left is first section next kept = record {
+pub reached-name : (name : List ℕ) (builder : Builder) (number : ℕ) (line : List ℕ) (all rest : List (ℕ × List ℕ)) → all ≡ (number, line) ∷ rest
+    → next_groups [] line ≡ Ok (group (heads.Name name) [] ∷ []) → builder ≡ record (built []) { name = name }
+    → Reached (group (heads.Name name) [] ∷ []) builder all rest
+reached-name name builder number line all rest is first kept = record {
   kept = kept;
   named = refl;
-  same = ap entry_groups is ∙ ap (λ (r : Result (List Group) LineKind). at_line number r (λ gs. reading gs rest)) first ∙ section [] (heads.Name name) refl;
-  next = next;
-  some = ([], (group (heads.Name name) files, refl));
+  same = ap entry_groups is ∙ ap (λ (r : Result (List Group) LineKind). at_line number r (λ gs. reading gs rest)) first;
+  some = ([], (group (heads.Name name) [], refl));
+  next = inl refl;
   name = (number, ap first_name is ∙ ap (name_at number) first ∙ ap (λ (b : Builder). name_of_parts number b) (sym kept));
 }
 
@@ -164,25 +163,37 @@ not_file line e = turned (is_file_line line) e
     turned true e = absurd (cc)
     turned false e = refl
 
-head_by : (r : Result Line LineKind) (groups : List Group) (builder : Builder) → is_file_result r ≡ false → builder ≡ built groups → is_some (only name_of groups) ≡ true
+-- a file that no line before it may have is refused
+refuses : (groups : List Group) (number : ℕ) (line : List ℕ) (rest : List (ℕ × List ℕ)) (some : Behind groups) → (place_of some.1.0.head ≡ Nowhere) ⊎ (head_is_next ((number, line) ∷ rest) ≡ true)
+    → (file : FileEntry) → line_value line ≡ Ok (lines.File file) → with_file groups file ≡ Err kinds.File
+refuses groups number line rest some (inl nowhere) file says =
+    let last = some.1.0 in
+    ap (λ (gs : List Group). with_file gs file) some.1.1 ∙ with_file-last some.0 last.head last.files file
+    ∙ ap (λ (p : Place). placed p last.files file >>= λ more. Ok (some.0 ++ group last.head more ∷ [])) nowhere
+refuses groups number line rest some (inr next) file says =
+    let none : is_file_result (line_value line) ≡ false = no_file line (not_file line next) in
+    absurd (true≢false (ap is_file_result (sym says) ∙ none))
+
+head_by : (r : Result Line LineKind) (groups : List Group) (builder : Builder) → ((file : FileEntry) → r ≡ Ok (lines.File file) → with_file groups file ≡ Err kinds.File) → builder ≡ built groups → is_some (only name_of groups) ≡ true
     → (r >>= with_line groups) ≡ ((r >>= head_in builder) >>= λ head. Ok (groups ++ group head [] ∷ []))
-head_by (Ok (lines.Head head)) groups builder none kept named =
+head_by (Ok (lines.Head head)) groups builder refused kept named =
     ap (λ b. cond b (Err kinds.Repeated) (Ok (groups ++ group head [] ∷ []))) (known-repeated groups head named ∙ ap (λ (b : Builder). is_known b head) (sym kept))
     ∙ picked (is_known builder head) head groups
   where
     picked : (b : Bool) (head : Head) (groups : List Group) → cond b (Err kinds.Repeated) (Ok (groups ++ group head [] ∷ [])) ≡ ((cond b (Err kinds.Repeated) (Ok head)) >>= λ h. Ok (groups ++ group h [] ∷ []))
     picked true head groups = refl
     picked false head groups = refl
-head_by (Ok (lines.File file)) groups builder none kept named = absurd (cc)
-head_by (Err e) groups builder none kept named = refl
+head_by (Ok (lines.File file)) groups builder refused kept named = refused file refl
+head_by (Err e) groups builder refused kept named = refl
 
--- a line that is no file's, behind some groups
-head_next : (groups : List Group) (builder : Builder) (line : List ℕ) → Behind groups → is_file_line line ≡ false → builder ≡ built groups → is_some (only name_of groups) ≡ true
+-- a line behind some groups, where none of a file may stand
+head_next : (groups : List Group) (builder : Builder) (number : ℕ) (line : List ℕ) (all rest : List (ℕ × List ℕ)) → Reached groups builder all ((number, line) ∷ rest)
     → next_groups groups line ≡ (head_step builder line >>= λ head. Ok (groups ++ group head [] ∷ []))
-head_next groups builder line some none kept named =
+head_next groups builder number line all rest so_far =
+    let some = so_far.some in
     let behind : next_groups groups line ≡ (line_value line >>= with_line groups) =
     subst (λ (gs : List Group). next_groups gs line ≡ (line_value line >>= with_line gs)) (sym some.1.1) (next_groups-behind some.0 some.1.0 line) in
-    behind ∙ head_by (line_value line) groups builder (no_file line none) kept named
+    behind ∙ head_by (line_value line) groups builder (refuses groups number line rest some so_far.next) so_far.kept so_far.named
 
 abbrev name_result : ℕ → List ℕ → Result (ℕ × List ℕ) (ℕ × LineKind)
 name_result number name = Ok (number, name)
@@ -197,18 +208,18 @@ known_of (Ok (lines.File file)) builder head e = absurd (cc)
 known_of (Err k) builder head e = absurd (cc)
 
 pub reached-more : (groups : List Group) (builder : Builder) (all rest left : List (ℕ × List ℕ)) (now : List (ℕ × List ℕ)) (number : ℕ) (line : List ℕ) (head : Head) (files : List FileEntry) (more : Builder)
-    → Reached groups builder all now → now ≡ (number, line) ∷ rest → head_step builder line ≡ Ok head → IsSection (place_of head) files rest left → head_is_next left ≡ true → more ≡ put builder head files
+    → Reached groups builder all now → now ≡ (number, line) ∷ rest → head_step builder line ≡ Ok head → IsSection (place_of head) files rest left → (place_of head ≡ Nowhere) ⊎ (head_is_next left ≡ true) → more ≡ put builder head files
     → Reached (groups ++ group head files ∷ []) more all left
 reached-more groups builder all rest left now number line head files more so_far is step section next after =
-    let none : is_file_line line ≡ false = not_file line (sym (ap head_is_next is) ∙ so_far.next) in
+    let here : Reached groups builder all ((number, line) ∷ rest) = subst (λ (left : List (ℕ × List ℕ)). Reached groups builder all left) is so_far in
     let one : next_groups groups line ≡ Ok (groups ++ group head [] ∷ []) =
-    head_next groups builder line so_far.some none so_far.kept so_far.named ∙ ap (λ (r : Result Head LineKind). r >>= λ h. Ok (groups ++ group h [] ∷ [])) step in
+    head_next groups builder number line all rest here ∙ ap (λ (r : Result Head LineKind). r >>= λ h. Ok (groups ++ group h [] ∷ [])) step in
     record {
       kept = after ∙ ap (λ (b : Builder). put b head files) so_far.kept ∙ sym (built-put groups head files);
       named = named-more groups (group head files) so_far.named;
       same = so_far.same ∙ ap (reading groups) is ∙ ap (λ (r : Result (List Group) LineKind). at_line number r (λ gs. reading gs rest)) one ∙ section groups head refl;
-      next = next;
       some = (groups, (group head files, refl));
+      next = next;
       name = (so_far.name.0, so_far.name.1 ∙ ap (λ (n : List ℕ). name_result so_far.name.0 n) (sym (ap (λ (b : Builder). b.name) after ∙ put-name builder head files (known_of (line_value line) builder head step))));
     }
 
@@ -222,17 +233,17 @@ line_fails (faults.Bad kind) number groups builder line rest total fails one so_
 pub reached-fails : (e : LineFault) (groups : List Group) (builder : Builder) (all rest now : List (ℕ × List ℕ)) (number : ℕ) (line : List ℕ)
     → Reached groups builder all now → now ≡ (number, line) ∷ rest → Fails e (head_step builder line) → FailsAt (fault_at number e) (entry_groups all)
 reached-fails e groups builder all rest now number line so_far is fails =
-    let none : is_file_line line ≡ false = not_file line (sym (ap head_is_next is) ∙ so_far.next) in
-    line_fails e number groups builder line rest (entry_groups all) fails (head_next groups builder line so_far.some none so_far.kept so_far.named) (so_far.same ∙ ap (reading groups) is)
+    let here : Reached groups builder all ((number, line) ∷ rest) = subst (λ (left : List (ℕ × List ℕ)). Reached groups builder all left) is so_far in
+    line_fails e number groups builder line rest (entry_groups all) fails (head_next groups builder number line all rest here) (so_far.same ∙ ap (reading groups) is)
 
 -- where the files behind a line fail, the entry does
 pub reached-section_fails : (e : ObjectError) (groups : List Group) (builder : Builder) (all rest now : List (ℕ × List ℕ)) (number : ℕ) (line : List ℕ) (head : Head)
     → Reached groups builder all now → now ≡ (number, line) ∷ rest → head_step builder line ≡ Ok head
     → ((gs : List Group) (h : Head) → place_of h ≡ place_of head → FailsAt e (reading (gs ++ group h [] ∷ []) rest)) → FailsAt e (entry_groups all)
 reached-section_fails e groups builder all rest now number line head so_far is step fails =
-    let none : is_file_line line ≡ false = not_file line (sym (ap head_is_next is) ∙ so_far.next) in
+    let here : Reached groups builder all ((number, line) ∷ rest) = subst (λ (left : List (ℕ × List ℕ)). Reached groups builder all left) is so_far in
     let one : next_groups groups line ≡ Ok (groups ++ group head [] ∷ []) =
-    head_next groups builder line so_far.some none so_far.kept so_far.named ∙ ap (λ (r : Result Head LineKind). r >>= λ h. Ok (groups ++ group h [] ∷ [])) step in
+    head_next groups builder number line all rest here ∙ ap (λ (r : Result Head LineKind). r >>= λ h. Ok (groups ++ group h [] ∷ [])) step in
     let whole : entry_groups all ≡ reading (groups ++ group head [] ∷ []) rest =
     so_far.same ∙ ap (reading groups) is ∙ ap (λ (r : Result (List Group) LineKind). at_line number r (λ gs. reading gs rest)) one in
     subst (λ (r : Result (List Group) (ℕ × LineKind)). FailsAt e r) (sym whole) (fails groups head refl)
@@ -241,14 +252,6 @@ pub name-fails : (e : LineFault) (number : ℕ) (line : List ℕ) (all rest : Li
 name-fails faults.NoMemory number line all rest is fails = tt
 name-fails (faults.Bad kind) number line all rest is fails =
     ap entry_groups is ∙ ap (λ (r : Result (List Group) LineKind). at_line number r (λ gs. reading gs rest)) fails
-
-pub name-section_fails : (e : ObjectError) (name : List ℕ) (number : ℕ) (line : List ℕ) (all rest : List (ℕ × List ℕ)) → all ≡ (number, line) ∷ rest
-    → next_groups [] line ≡ Ok (group (heads.Name name) [] ∷ [])
-    → ((gs : List Group) (h : Head) → place_of h ≡ Nowhere → FailsAt e (reading (gs ++ group h [] ∷ []) rest)) → FailsAt e (entry_groups all)
-name-section_fails e name number line all rest is first fails =
-    let whole : entry_groups all ≡ reading (group (heads.Name name) [] ∷ []) rest =
-    ap entry_groups is ∙ ap (λ (r : Result (List Group) LineKind). at_line number r (λ gs. reading gs rest)) first in
-    subst (λ (r : Result (List Group) (ℕ × LineKind)). FailsAt e r) (sym whole) (fails [] (heads.Name name) refl)
 
 -- what a step gives isn't known yet
 pub step-unknown : (builder : Builder) (line : List ℕ) (head : Head) → head_step builder line ≡ Ok head → is_known builder head ≡ false

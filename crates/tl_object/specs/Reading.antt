@@ -13,8 +13,6 @@ use Rattle.tl_object.specs.declared.fault.LineKind.TheVariants as kinds
 use Rattle.tl_object.specs.declared.fault.ObjectError.{ObjectError}
 use Rattle.tl_object.specs.declared.fault.ObjectError.TheVariants as errors
 use Rattle.tl_object.specs.declared.key.Part.TheVariants.{Run, Doc, Src}
-use Rattle.tl_object.specs.declared.head.Place.{Place}
-use Rattle.tl_object.specs.declared.head.Place.TheVariants.{Nowhere, Plain, Marked}
 use Rattle.tl_object.specs.declared.head.Head.{Head}
 use Rattle.tl_object.specs.declared.head.Head.TheVariants as heads
 use Rattle.tl_object.specs.declared.head.Line.{Line}
@@ -22,6 +20,12 @@ use Rattle.tl_object.specs.declared.head.Line.TheVariants as lines
 use Rattle.tl_entry.specs.declared.object.Object.{Object}
 
 -- whether lines of files may follow a line, and whether they may state details and a language
+pub data Place : Type 0 where
+  Nowhere : Place
+  Plain : Place
+  Marked : Place
+
+-- which lines of files may follow a line
 abbrev pub place_of : Head → Place
 place_of (heads.Files Doc blocks) = Marked
 place_of (heads.Files Run blocks) = Plain

@@ -1,10 +1,11 @@
 -- One step of the reading of an entry.
-use Rattle.std.specs.Prelude.{◌≡◌, ℕ, ◌==◌, Bool, true, false, not, if◌then◌else◌, List, [], ◌∷◌, ◌++◌, Result, Ok, Err}
+use Rattle.std.specs.Prelude.{◌≡◌, ◌⊎◌, ℕ, ◌+◌, ◌≤◌, ◌==◌, Bool, true, false, not, if◌then◌else◌, List, [], ◌∷◌, ◌++◌, length, None, Result, Ok, Err}
 use Rattle.tl_entry.specs.Parts.{FileEntry}
 use Rattle.tl_object.specs.Values.{◌>>=◌}
 use Rattle.tl_object.specs.Grammar.{line_value}
 use Rattle.tl_object.specs.Groups.{Group}
-use Rattle.tl_object.specs.Reading.{placed, place_of, reading}
+use Rattle.tl_object.specs.Content.{content, entry_lines, lines_left}
+use Rattle.tl_object.specs.Reading.{Place, Nowhere, placed, place_of, reading, FailsAt}
 use Rattle.tl_object.specs.declared.fault.LineKind.{LineKind}
 use Rattle.tl_object.specs.declared.fault.LineKind.TheVariants as kinds
 use Rattle.tl_object.specs.Known.{is_known}
@@ -13,10 +14,13 @@ use Rattle.tl_object.specs.declared.fault.LineFault.TheVariants as faults
 use Rattle.tl_object.specs.declared.fault.ObjectError.{ObjectError}
 use Rattle.tl_object.specs.declared.fault.ObjectError.TheVariants as errors
 use Rattle.tl_object.specs.declared.builder.Builder.{Builder}
-use Rattle.tl_object.specs.declared.head.Place.{Place}
 use Rattle.tl_object.specs.declared.head.Head.{Head}
 use Rattle.tl_object.specs.declared.head.Line.{Line}
 use Rattle.tl_object.specs.declared.head.Line.TheVariants as lines
+
+-- the file of a path alone
+abbrev pub bare : List ℕ → FileEntry
+bare path = record { path = path; details = None; language = None }
 
 -- whether a line is a file's
 abbrev pub is_file_line : List ℕ → Bool
@@ -42,6 +46,20 @@ abbrev pub IsSection : Place → List FileEntry → List (ℕ × List ℕ) → L
 IsSection place files before after =
     (groups : List Group) (head : Head) → place_of head ≡ place
     → reading (groups ++ record { head = head; files = [] } ∷ []) before ≡ reading (groups ++ record { head = head; files = files } ∷ []) after
+
+-- the files of the lines at the front of a text, which stands behind this many lines, and the text behind those lines. The
+-- next line is no file's, unless no line of a file may stand here
+pub record AreRead (place : Place) (stops : Bool) (files : List FileEntry) (number : ℕ) (text : List ℕ) (after : ℕ) (rest : List ℕ) : Type 0 where
+  pub section : IsSection place files (entry_lines stops (content number text)) (entry_lines stops (content after rest))
+  pub next : (place ≡ Nowhere) ⊎ (head_is_next (entry_lines stops (content after rest)) ≡ true)
+  pub left : lines_left stops (content number text) ≡ lines_left stops (content after rest)
+  pub fits : after + length rest ≤ number + length text
+  pub shorter : length rest ≤ length text
+
+-- a fault is that of the reading of these lines, behind a line after which the files of a section stand
+abbrev pub FilesFail : ObjectError → Place → List (ℕ × List ℕ) → Type 0
+FilesFail e place before =
+    (groups : List Group) (head : Head) → place_of head ≡ place → FailsAt e (reading (groups ++ record { head = head; files = [] } ∷ []) before)
 
 -- what a line says that is no file's, where it isn't known yet
 abbrev pub head_in : Builder → Line → Result Head LineKind

@@ -1,5 +1,5 @@
 //! The parts of an entry, as its lines are read.
-ghost use Rattle.std.specs.Prelude.{◌≡◌, [], None, OnOk, IfOk, true, false, unwrap_or};
+ghost use Rattle.std.specs.Prelude.{◌≡◌, [], None, OnOk, IfOk, map, true, false, unwrap_or};
 ghost use Rattle.tl_path.specs.declared.kinds.Category.TheVariants.{Package};
 ghost use Rattle.tl_entry.specs.Sections.{no_files, no_doc_files};
 
@@ -46,6 +46,8 @@ impl Builder {
     ghost use Rattle.tl_entry.specs.Rising.{has_key};
     ghost use Rattle.tl_object.specs.Built.{built, put, finished};
     ghost use Rattle.tl_object.specs.Known.{is_known, container_of};
+    ghost use Rattle.tl_object.specs.Reading.{place_of, Nowhere};
+    ghost use Rattle.tl_object.specs.Steps.{bare};
 
     /// The parts of an entry of which the name alone is known.
     pub(crate) fn new(alloc: Global, name: Name) -> Builder
@@ -104,46 +106,23 @@ impl Builder {
         }
     }
 
-    fn put_bin(
+    /// Takes a section of binaries, for a platform that isn't known yet.
+    pub(crate) fn put_bin(
         &mut self,
         alloc: Global,
         platform: Platform,
         blocks: u64,
-        files: DocFileList,
+        paths: Paths,
     ) -> Result<(), AllocError>
         requires { has_key (λ b. b.platform) platform self.old.bin ≡ false }
-        ensures { OnOk result (self.new ≡ put self.old (heads.Binfiles platform blocks) files) }
+        ensures { OnOk result (self.new ≡ put self.old (heads.Binfiles platform blocks) (map bare paths)) }
     {
-        let paths = files.into_paths(alloc)?;
         let bin = BinFiles {
             platform,
             blocks,
             paths,
         };
         self.bin.put(alloc, bin)?;
-        Ok(())
-    }
-
-    fn put_files(
-        &mut self,
-        alloc: Global,
-        part: Part,
-        blocks: u64,
-        files: DocFileList,
-    ) -> Result<(), AllocError>
-        ensures { OnOk result (self.new ≡ put self.old (heads.Files part blocks) files) }
-    {
-        match part {
-            Part::Run => self.run = Some(Files {
-                blocks,
-                paths: files.into_paths(alloc)?,
-            }),
-            Part::Doc => self.doc = Some(DocFiles { blocks, files }),
-            Part::Src => self.src = Some(Files {
-                blocks,
-                paths: files.into_paths(alloc)?,
-            }),
-        }
         Ok(())
     }
 
@@ -167,15 +146,10 @@ impl Builder {
         }
     }
 
-    /// Takes what a line says that isn't known yet, with the files that follow it.
-    pub(crate) fn put(
-        &mut self,
-        alloc: Global,
-        head: Head,
-        files: DocFileList,
-    ) -> Result<(), AllocError>
-        requires { is_known self.old head ≡ false }
-        ensures { OnOk result (self.new ≡ put self.old head files) }
+    /// Takes what a line says that no files may follow.
+    pub(crate) fn put(&mut self, head: Head) -> Result<(), AllocError>
+        requires { place_of head ≡ Nowhere }
+        ensures { OnOk result (self.new ≡ put self.old head []) }
     {
         match head {
             Head::Name(name) => self.name = name,
@@ -190,9 +164,8 @@ impl Builder {
             Head::Postaction(text) => self.postactions.push(text)?,
             Head::Size(part, size) => self.put_size(part, size),
             Head::Digest(part, digest) => self.put_digest(part, digest),
-            Head::Files(part, blocks) => self.put_files(alloc, part, blocks, files)?,
-            Head::Binfiles(platform, blocks) => self.put_bin(alloc, platform, blocks, files)?,
             Head::Fact(fact) => self.catalogue_facts.push(fact)?,
+            Head::Files(_, _) | Head::Binfiles(_, _) => unreachable!(),
         }
         Ok(())
     }
@@ -244,7 +217,7 @@ fn files_or_none(alloc: Global, files: Option<Files>) -> Files
         Some(files) => files,
         None => Files {
             blocks: 0,
-            paths: Paths::new(Vec::new(alloc)),
+            paths: Paths::new(alloc),
         },
     }
 }

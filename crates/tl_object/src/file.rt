@@ -8,8 +8,8 @@ use crate::fault::{LineFault, LineKind};
 use crate::source::cut_at;
 use crate::value::{after_word, path_of};
 use std::alloc::Global;
-use tl_entry::DocFile;
-use tl_path::Path;
+use std::marker::Model;
+use tl_path::PathRef;
 use tl_text::{Text, TextError};
 
 const BAD_FILE: LineFault = LineFault::Bad(LineKind::File);
@@ -17,6 +17,26 @@ const BAD_FILE: LineFault = LineFault::Bad(LineKind::File);
 const DETAILS: &[u8] = b"details=\"";
 
 const LANGUAGE: &[u8] = b"language=\"";
+
+/// What a file's line says; its path stands in the line.
+#[derive(Drop)]
+pub struct FileLine<'a> {
+    pub path: PathRef<'a>,
+    pub details: Option<Text>,
+    pub language: Option<Text>,
+}
+
+impl<'a> Model for FileLine<'a> {
+    ghost use Rattle.std.specs.Prelude.{◌≡◌, true};
+    ghost use Rattle.tl_entry.specs.Forms.{is_unquoted};
+    ghost use Rattle.tl_entry.specs.Parts.{FileEntry};
+
+    ghost Value = { FileEntry };
+
+    ghost view = { λ a. record { path = a.path; details = a.details; language = a.language } };
+
+    ghost invariant = { λ a. (is_unquoted a.details ≡ true) × (is_unquoted a.language ≡ true) };
+}
 
 fn quoted<'a>(text: &'a [u8], word: &[u8]) -> Option<(&'a [u8], &'a [u8])>
     ensures found { MatchOption result (quoted word.now text.now ≡ None) (λ parts. quoted word.now text.now ≡ Some (parts.0.now, parts.1.now)) }
@@ -53,13 +73,17 @@ fn second_mark(alloc: Global, word: &[u8], text: &[u8]) -> Result<Option<Text>, 
     }
 }
 
-fn marked_file(alloc: Global, path: Path, marks: &[u8]) -> Result<DocFile, LineFault>
-    ensures { Gives result (marked_file path marks.now) }
+fn marked_file<'a>(
+    alloc: Global,
+    path: PathRef<'a>,
+    marks: &[u8],
+) -> Result<FileLine<'a>, LineFault>
+    ensures { Gives result (marked_file path.entry marks.now) }
 {
     if let Some((details, rest)) = quoted(marks, DETAILS) {
         let details = Some(mark_of(alloc, details)?);
         let language = second_mark(alloc, LANGUAGE, rest)?;
-        return Ok(DocFile {
+        return Ok(FileLine {
             path,
             details,
             language,
@@ -70,28 +94,28 @@ fn marked_file(alloc: Global, path: Path, marks: &[u8]) -> Result<DocFile, LineF
     };
     let language = Some(mark_of(alloc, language)?);
     let details = second_mark(alloc, DETAILS, rest)?;
-    Ok(DocFile {
+    Ok(FileLine {
         path,
         details,
         language,
     })
 }
 
-/// The file of a line, without the space at its front.
-pub(crate) fn file_of(alloc: Global, text: &[u8]) -> Result<DocFile, LineFault>
+/// The file of a line, without the space at its front. Most lines are a path alone, which is looked at first.
+pub(crate) fn file_of(alloc: Global, text: &[u8]) -> Result<FileLine<'_>, LineFault>
     ensures { Gives result (file_value text.now) }
 {
+    if let Ok(path) = PathRef::check(text) {
+        return Ok(FileLine {
+            path,
+            details: None,
+            language: None,
+        });
+    }
     match cut_at(text, b' ') {
-        None => {
-            let path = path_of(alloc, text)?;
-            Ok(DocFile {
-                path,
-                details: None,
-                language: None,
-            })
-        }
+        None => Err(BAD_FILE),
         Some((path, marks)) => {
-            let path = path_of(alloc, path)?;
+            let path = path_of(path)?;
             marked_file(alloc, path, marks)
         }
     }

@@ -2,11 +2,10 @@
 ghost use Rattle.std.specs.Prelude.{◌≡◌, List, IfOk, true};
 ghost use Rattle.tl_entry.specs.Forms.{is_fact_key};
 ghost use Rattle.tl_object.specs.Values.{Gives};
-ghost use Rattle.tl_object.specs.Reading.{place_of};
 ghost use Rattle.tl_object.specs.Grammar.{head_of, fact_of, keyed, head_value, line_form, line_value};
 
 use crate::fault::{LineFault, LineKind};
-use crate::file::file_of;
+use crate::file::{FileLine, file_of};
 use crate::key::{Key, Part, key_of};
 use crate::source::cut_at;
 use crate::value::{
@@ -14,7 +13,7 @@ use crate::value::{
     small_number_of, text_of,
 };
 use std::alloc::{AllocError, Global};
-use tl_entry::{DocFile, Fact, is_fact_key};
+use tl_entry::{Fact, is_fact_key};
 use tl_path::{Category, Name, Platform};
 use tl_text::{Text, TextError};
 
@@ -38,19 +37,11 @@ pub enum Head {
     Fact(Fact),
 }
 
-/// Whether lines of files may follow a line, and whether they may state details and a language.
-#[derive(Clone, Copy)]
-pub enum Place {
-    Nowhere,
-    Plain,
-    Marked,
-}
-
 /// What a line says.
 #[derive(Drop)]
-pub enum Line {
+pub enum Line<'a> {
     Head(Head),
-    File(DocFile),
+    File(FileLine<'a>),
 }
 
 fn head_of(alloc: Global, key: Key, value: &[u8]) -> Result<Head, LineFault>
@@ -122,7 +113,7 @@ fn head_value(alloc: Global, line: &[u8]) -> Result<Head, LineFault>
     }
 }
 
-fn line_form(alloc: Global, line: &[u8]) -> Result<Line, LineFault>
+fn line_form(alloc: Global, line: &[u8]) -> Result<Line<'_>, LineFault>
     ensures { Gives result (line_form line.now) }
 {
     match line {
@@ -138,22 +129,11 @@ fn line_form(alloc: Global, line: &[u8]) -> Result<Line, LineFault>
 }
 
 /// What a line says by itself, or its first fault.
-pub(crate) fn line_of(alloc: Global, line: &[u8]) -> Result<Line, LineFault>
+pub(crate) fn line_of(alloc: Global, line: &[u8]) -> Result<Line<'_>, LineFault>
     ensures { Gives result (line_value line.now) }
 {
     match str::from_utf8(line) {
         Ok(_) => line_form(alloc, line),
         Err(_) => Err(LineFault::Bad(LineKind::Utf8)),
-    }
-}
-
-/// What lines of files may follow a line.
-pub(crate) fn place_of(head: &Head) -> Place
-    ensures { result ≡ place_of head.now }
-{
-    match head {
-        Head::Files(Part::Doc, _) => Place::Marked,
-        Head::Files(_, _) | Head::Binfiles(_, _) => Place::Plain,
-        _ => Place::Nowhere,
     }
 }

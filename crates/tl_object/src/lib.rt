@@ -11,6 +11,7 @@ mod key;
 #[cfg(test)]
 mod order_tests;
 mod read;
+mod section;
 mod source;
 #[cfg(test)]
 mod tests;

@@ -14,9 +14,11 @@ fn put_files(alloc: Global, text: &mut Vec<u8>, backwards: bool) -> Result<(), A
     Ok(())
 }
 
-// An entry with platforms and files, both in order or both from the last on.
+// An entry with platforms and files in two sections, all in order or all from the last on.
 fn entry_text(alloc: Global, backwards: bool) -> Result<Vec<u8>, AllocError> {
     let mut text = Vec::from_slice(alloc, b"name a\ndocfiles size=1\n".as_slice())?;
+    put_files(alloc, &mut text, backwards)?;
+    text.extend_from_slice(b"srcfiles size=1\n".as_slice())?;
     put_files(alloc, &mut text, backwards)?;
     for at in 0..26_u32 {
         let number = if backwards { 25 - at } else { at };
@@ -53,7 +55,7 @@ fn files_and_platforms_from_the_last_on_are_read_in_order(rt: HostRuntime) -> Re
     let one = written(alloc, backwards.as_slice())?;
     let other = written(alloc, forwards.as_slice())?;
     assert_eq!(rt; one.as_slice(), other.as_slice());
-    assert!(rt; one.len() > 2_000);
+    assert!(rt; one.len() > 4_000);
     Ok(())
 }
 
@@ -83,7 +85,7 @@ fn a_platform_that_comes_again_far_behind_is_found(rt: HostRuntime) -> Result<()
         text.extend_from_slice(line.as_str().as_bytes())?;
         assert_eq!(rt;
             fault_of(alloc, text.as_slice()),
-            Some((407, LineKind::Repeated))
+            Some((708, LineKind::Repeated))
         );
     }
     Ok(())

@@ -1,113 +1,25 @@
 //! The reading of an entry.
-ghost use Rattle.std.specs.Prelude.{◌≡◌, ◌+◌, ◌<◌, ◌≤◌, ◌^◌, ◌∷◌, ◌++◌, [], ℕ, List, length, Ok, Err, IfOk, IfErr, MatchResult, true, false};
+ghost use Rattle.std.specs.Prelude.{◌≡◌, ◌+◌, ◌<◌, ◌≤◌, ◌^◌, ◌∷◌, [], ℕ, List, length, Ok, IfOk, IfErr, MatchResult, false};
 ghost use Rattle.tl_object.specs.Content.{content, entry_lines, lines_left, front, behind};
 ghost use Rattle.tl_object.specs.Groups.{Group};
 ghost use Rattle.tl_object.specs.Values.{Gives, Fails};
 ghost use Rattle.tl_object.specs.Cuts.{cut};
 ghost use Rattle.tl_object.specs.declared.head.Head.TheVariants as heads;
-ghost use Rattle.tl_object.specs.Reading.{placed, place_of, names, next_groups, reading, entry_groups, entry_of, as_object, first_name, FailsAt, GivesAt};
-ghost use Rattle.tl_object.specs.Built.{built};
-ghost use Rattle.tl_object.specs.Steps.{is_file_line, file_step, head_step, head_is_next, IsSection};
+ghost use Rattle.tl_object.specs.Reading.{place_of, names, next_groups, entry_groups, entry_of, as_object, first_name, FailsAt, GivesAt};
+ghost use Rattle.tl_object.specs.Built.{built, put};
+ghost use Rattle.tl_object.specs.Known.{is_known};
+ghost use Rattle.tl_object.specs.Steps.{head_step, AreRead, FilesFail};
+ghost use Rattle.tl_entry.specs.Parts.{FileEntry};
 
 use crate::builder::Builder;
 use crate::fault::{LineFault, LineKind, ObjectError};
-use crate::head::{Head, Line, Place, line_of, place_of};
+use crate::head::{Head, Line, line_of};
+use crate::key::Part;
+use crate::section::{After, read_docs, read_paths};
 use crate::source::{cut_at, next_entry_line};
 use std::alloc::Global;
-use tl_entry::{DocFile, DocFileList, Gathered, Object};
+use tl_entry::{DocFiles, Files, Object};
 use tl_path::Name;
-
-/// The files of the lines that follow a line, and the text behind them.
-#[derive(Drop)]
-pub(crate) struct Section<'a> {
-    pub files: DocFileList,
-    pub number: u32,
-    pub rest: &'a [u8],
-}
-
-fn starts_file(line: &[u8]) -> bool
-    ensures { result ≡ is_file_line line.now }
-{
-    match line {
-        [b' ', ..] => true,
-        _ => false,
-    }
-}
-
-fn put_file(
-    alloc: Global,
-    place: Place,
-    files: &mut Gathered<DocFile>,
-    file: DocFile,
-) -> Result<(), LineFault>
-    ensures { MatchResult result (λ _. placed place files.old file ≡ Ok files.new) (λ e. Fails e (placed place files.old file)) }
-{
-    let is_marked = file.details.is_some() || file.language.is_some();
-    match place {
-        Place::Nowhere => return Err(LineFault::Bad(LineKind::File)),
-        Place::Plain if is_marked => return Err(LineFault::Bad(LineKind::File)),
-        _ => {}
-    }
-    if files.add(alloc, file)? {
-        Ok(())
-    } else {
-        Err(LineFault::Bad(LineKind::Repeated))
-    }
-}
-
-fn read_file(
-    alloc: Global,
-    place: Place,
-    files: &mut Gathered<DocFile>,
-    line: &[u8],
-) -> Result<(), LineFault>
-    requires { is_file_line line.now ≡ true }
-    ensures { MatchResult result (λ _. file_step place files.old line.now ≡ Ok files.new) (λ e. Fails e (file_step place files.old line.now)) }
-{
-    match line_of(alloc, line)? {
-        Line::File(file) => put_file(alloc, place, files, file),
-        Line::Head(_) => unreachable!(),
-    }
-}
-
-/// The files of the lines at the front of a text that are files', and the text behind them.
-pub(crate) fn read_files(
-    alloc: Global,
-    stops: bool,
-    place: Place,
-    number: u32,
-    text: &[u8],
-) -> Result<Section<'_>, ObjectError>
-    requires { number + length text.now < 2 ^ 32 }
-    ensures section { IfOk result (λ s. IsSection place s.files (entry_lines stops (content number text.now)) (entry_lines stops (content s.number s.rest.now))) }
-    ensures next { IfOk result (λ s. head_is_next (entry_lines stops (content s.number s.rest.now)) ≡ true) }
-    ensures fits { IfOk result (λ s. s.number + length s.rest.now ≤ number + length text.now) }
-    ensures shorter { IfOk result (λ s. length s.rest.now ≤ length text.now) }
-    ensures left { IfOk result (λ s. lines_left stops (content number text.now) ≡ lines_left stops (content s.number s.rest.now)) }
-    ensures fault { IfErr result (λ e. (groups : List Group) (head : Head) → place_of head ≡ place
-        → FailsAt e (reading (groups ++ record { head = head; files = [] } ∷ []) (entry_lines stops (content number text.now)))) }
-{
-    let mut files = Gathered::new(alloc);
-    let mut number = number;
-    let mut rest = text;
-    while let Some(found) = next_entry_line(stops, number, rest) {
-        if !starts_file(found.line) {
-            break;
-        }
-        match read_file(alloc, place, &mut files, found.line) {
-            Ok(()) => {
-                number = found.number;
-                rest = found.rest;
-            }
-            Err(fault) => return Err(fault.at(found.number)),
-        }
-    }
-    Ok(Section {
-        files: DocFileList::new(files.finish()?),
-        number,
-        rest,
-    })
-}
 
 /// What a line says that is no file's and isn't known yet.
 fn read_head(alloc: Global, builder: &Builder, line: &[u8]) -> Result<Head, LineFault>
@@ -147,6 +59,72 @@ fn read_name(alloc: Global, line: &[u8]) -> Result<Name, LineFault>
     }
 }
 
+/// Takes the section of a part that a line begins, with the files that follow it.
+fn read_part<'a>(
+    alloc: Global,
+    stops: bool,
+    builder: &mut Builder,
+    part: Part,
+    blocks: u64,
+    number: u32,
+    text: &'a [u8],
+) -> Result<After<'a>, ObjectError>
+    requires { number + length text.now < 2 ^ 32 }
+    ensures read { IfOk result (λ after. (files : List FileEntry) × (builder.new ≡ put builder.old (heads.Files part blocks) files)
+        × AreRead (place_of (heads.Files part blocks)) stops files number text.now after.number after.rest.now) }
+    ensures fault { IfErr result (λ e. FilesFail e (place_of (heads.Files part blocks)) (entry_lines stops (content number text.now))) }
+{
+    match part {
+        Part::Doc => {
+            let section = read_docs(alloc, stops, number, text)?;
+            let files = section.files;
+            builder.doc = Some(DocFiles { blocks, files });
+            Ok(section.after)
+        }
+        Part::Run => {
+            let section = read_paths(alloc, stops, number, text)?;
+            let paths = section.files;
+            builder.run = Some(Files { blocks, paths });
+            Ok(section.after)
+        }
+        Part::Src => {
+            let section = read_paths(alloc, stops, number, text)?;
+            let paths = section.files;
+            builder.src = Some(Files { blocks, paths });
+            Ok(section.after)
+        }
+    }
+}
+
+/// Takes what a line says that isn't known yet, with the files that follow it.
+fn read_group<'a>(
+    alloc: Global,
+    stops: bool,
+    builder: &mut Builder,
+    head: Head,
+    number: u32,
+    text: &'a [u8],
+) -> Result<After<'a>, ObjectError>
+    requires fits { number + length text.now < 2 ^ 32 }
+    requires new { is_known builder.old head ≡ false }
+    ensures read { IfOk result (λ after. (files : List FileEntry) × (builder.new ≡ put builder.old head files)
+        × AreRead (place_of head) stops files number text.now after.number after.rest.now) }
+    ensures fault { IfErr result (λ e. FilesFail e (place_of head) (entry_lines stops (content number text.now))) }
+{
+    match head {
+        Head::Files(part, blocks) => read_part(alloc, stops, builder, part, blocks, number, text),
+        Head::Binfiles(platform, blocks) => {
+            let section = read_paths(alloc, stops, number, text)?;
+            builder.put_bin(alloc, platform, blocks, section.files)?;
+            Ok(section.after)
+        }
+        head => {
+            builder.put(head)?;
+            Ok(After { number, rest: text })
+        }
+    }
+}
+
 /// What the lines of an entry gave, and the text behind them.
 #[derive(Drop)]
 struct Parts<'a> {
@@ -181,25 +159,20 @@ fn read_parts(
         Ok(name) => name,
         Err(fault) => return Err(fault.at(first.number)),
     };
-    let section = match read_files(alloc, stops, Place::Nowhere, first.number, first.rest) {
-        Ok(section) => section,
-        Err(fault) => return Err(fault),
-    };
     let mut builder = Builder::new(alloc, name);
-    let mut number = section.number;
-    let mut rest = section.rest;
+    let mut number = first.number;
+    let mut rest = first.rest;
     while let Some(found) = next_entry_line(stops, number, rest) {
         let head = match read_head(alloc, &builder, found.line) {
             Ok(head) => head,
             Err(fault) => return Err(fault.at(found.number)),
         };
-        let section = match read_files(alloc, stops, place_of(&head), found.number, found.rest) {
-            Ok(section) => section,
+        let after = match read_group(alloc, stops, &mut builder, head, found.number, found.rest) {
+            Ok(after) => after,
             Err(fault) => return Err(fault),
         };
-        builder.put(alloc, head, section.files)?;
-        number = section.number;
-        rest = section.rest;
+        number = after.number;
+        rest = after.rest;
     }
     Ok(Parts {
         builder,

@@ -124,6 +124,14 @@ fn each_kind_of_fault_is_found_at_its_line(rt: HostRuntime) {
     );
     assert_eq!(rt; fault_of(alloc, b"name a\n x\n"), Some((2, LineKind::File)));
     assert_eq!(rt;
+        fault_of(alloc, b"name a\n ../x\n"),
+        Some((2, LineKind::File))
+    );
+    assert_eq!(rt;
+        fault_of(alloc, b"name a\n \xff\n"),
+        Some((2, LineKind::Utf8))
+    );
+    assert_eq!(rt;
         fault_of(alloc, b"name a\nrunfiles size=1\n x\nrevision 1\n y\n"),
         Some((5, LineKind::File))
     );

@@ -8,7 +8,7 @@ use crate::fault::{LineFault, LineKind};
 use crate::source::cut_at;
 use hex::FromHex;
 use std::alloc::Global;
-use tl_path::{Category, Name, NameError, Path, PathError, Platform, is_platform};
+use tl_path::{Category, Name, NameError, PathRef, Platform, is_platform};
 use tl_text::{Text, TextError, decimal_u32, decimal_u64};
 
 const BAD_VALUE: LineFault = LineFault::Bad(LineKind::Value);
@@ -33,13 +33,12 @@ pub(crate) fn name_of(alloc: Global, value: &[u8]) -> Result<Name, LineFault>
     }
 }
 
-pub(crate) fn path_of(alloc: Global, text: &[u8]) -> Result<Path, LineFault>
+pub(crate) fn path_of(text: &[u8]) -> Result<PathRef<'_>, LineFault>
     ensures { Gives result (path_value text.now) }
 {
-    match Path::parse(alloc, text) {
+    match PathRef::check(text) {
         Ok(path) => Ok(path),
-        Err(PathError::BadPath { .. }) => Err(LineFault::Bad(LineKind::File)),
-        Err(PathError::NoMemory) => Err(LineFault::NoMemory),
+        Err(_) => Err(LineFault::Bad(LineKind::File)),
     }
 }
 

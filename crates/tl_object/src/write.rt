@@ -8,6 +8,7 @@ ghost use Rattle.hex.specs.Hex.{encode_lower};
 ghost use Rattle.tl_text.specs.Texts.{IsText};
 ghost use Rattle.tl_path.specs.Path.{IsPath};
 ghost use Rattle.tl_path.specs.Names.{is_platform};
+ghost use Rattle.tl_entry.specs.Rising.{is_rising};
 ghost use Rattle.tl_object.specs.Plain.{is_key};
 ghost use Rattle.tl_object.specs.Formed.{IsFormedText, IsFormedSize, IsDigest, IsFormedDigest, IsFormedBox, IsFormedFile, IsFormedDoc, IsFormedSection, IsFormedBin, IsFormedFact, HasFormedFront, HasFormedTexts, HasFormedFiles};
 ghost use Rattle.tl_object.specs.Again.{ReadsAgain};
@@ -17,8 +18,8 @@ ghost use Rattle.tl_object.specs.Writing.{key_line, number_line, text_line, text
 use hex::encode_to_slice;
 use itoa::Buffer;
 use std::alloc::{AllocError, Global};
-use tl_entry::{BinFiles, Container, DocFile, DocFiles, Fact, Files, Object};
-use tl_path::{Category, Path};
+use tl_entry::{BinFiles, Container, DocFile, DocFiles, Fact, Files, Object, Paths};
+use tl_path::{Category, PathRef};
 use tl_text::Text;
 
 #[tactic(auto, unfolding(crate::specs::Writing::key_line))]
@@ -147,10 +148,10 @@ fn put_container(
 }
 
 #[tactic(auto, unfolding(crate::specs::Writing::path_line))]
-fn put_path(out: &mut Vec<u8>, path: &Path) -> Result<(), AllocError>
-    ensures written { OnOk result (out.new.items ≡ out.old.items ++ path_line path.now) }
-    ensures plain { OnOk result (IsPlain (path_line path.now)) }
-    ensures formed { OnOk result (IsPath path.now) }
+fn put_path(out: &mut Vec<u8>, path: PathRef<'_>) -> Result<(), AllocError>
+    ensures written { OnOk result (out.new.items ≡ out.old.items ++ path_line path.entry) }
+    ensures plain { OnOk result (IsPlain (path_line path.entry)) }
+    ensures formed { OnOk result (IsPath path.entry) }
 {
     out.push(b' ')?;
     out.extend_from_slice(path.bytes())?;
@@ -158,13 +159,14 @@ fn put_path(out: &mut Vec<u8>, path: &Path) -> Result<(), AllocError>
     Ok(())
 }
 
-fn put_paths(out: &mut Vec<u8>, paths: &[Path]) -> Result<(), AllocError>
+fn put_paths(out: &mut Vec<u8>, paths: &Paths) -> Result<(), AllocError>
     ensures written { OnOk result (out.new.items ≡ out.old.items ++ flat_map path_line paths.now) }
     ensures plain { OnOk result (IsPlain out.old.items → IsPlain out.new.items) }
     ensures formed { OnOk result (All IsPath paths.now) }
+    ensures rising { is_rising (λ path. path) paths.now ≡ true }
 {
-    for path in paths {
-        put_path(out, path)?;
+    for index in 0..paths.len() {
+        put_path(out, paths.at(index))?;
     }
     Ok(())
 }
@@ -227,12 +229,11 @@ fn put_files(out: &mut Vec<u8>, key: &[u8], files: &Files) -> Result<(), AllocEr
     ensures plain { OnOk result (IsPlain out.old.items → IsPlain out.new.items) }
     ensures formed { OnOk result (IsFormedSection files.now) }
 {
-    let paths = files.paths.as_slice();
-    if files.blocks == 0 && paths.is_empty() {
+    if files.blocks == 0 && files.paths.len() == 0 {
         return Ok(());
     }
     put_section(out, key, files.blocks)?;
-    put_paths(out, paths)
+    put_paths(out, &files.paths)
 }
 
 fn put_doc(out: &mut Vec<u8>, doc: &DocFiles) -> Result<(), AllocError>
@@ -275,7 +276,7 @@ fn put_bin(out: &mut Vec<u8>, bin: &BinFiles) -> Result<(), AllocError>
     ensures formed { OnOk result (IsFormedBin bin.now) }
 {
     put_bin_line(out, bin.platform.bytes(), bin.blocks)?;
-    put_paths(out, bin.paths.as_slice())
+    put_paths(out, &bin.paths)
 }
 
 fn put_bins(out: &mut Vec<u8>, bins: &[BinFiles]) -> Result<(), AllocError>

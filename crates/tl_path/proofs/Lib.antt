@@ -1,3 +1,5 @@
+pub mod Scan
+pub mod Plain
 pub mod Split
 pub mod Form
 pub mod Front

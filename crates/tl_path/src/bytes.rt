@@ -41,5 +41,5 @@ pub(crate) fn is_blank(byte: u8) -> bool
 pub(crate) fn is_barred(byte: u8) -> bool
     ensures { result ≡ is_barred byte }
 {
-    byte <= b' ' || byte == 0x7F || byte == b'"' || byte == b'\\'
+    (byte <= b' ') | (byte == 0x7F) | (byte == b'"') | (byte == b'\\')
 }

@@ -1,6 +1,7 @@
 // Where a text fails to be a path.
-ghost use Rattle.std.specs.Prelude.{◌≡◌, ◌≤◌, ◌<◌, length, position, IfSome, Some};
+ghost use Rattle.std.specs.Prelude.{◌≡◌, ◌≤◌, ◌<◌, ◌||◌, length, position, fold, zip, true, false, IfSome, None, Some};
 ghost use Rattle.tl_path.specs.Bytes.{is_barred};
+ghost use Rattle.tl_path.specs.Inside.{is_doubtful};
 ghost use Rattle.tl_path.specs.Path.{earlier, size_fault, byte_fault, component_fault, place_fault};
 
 use crate::bytes::is_barred;
@@ -35,6 +36,9 @@ pub struct PathFault {
 const LONGEST: usize = 1024;
 
 const MOST_COMPONENTS: u32 = 64;
+
+// A shorter text has no more than 64 components, if none is empty.
+const DEEP_FROM: usize = 128;
 
 // The fault at the lesser place; the first one where both have one place.
 fn earlier(first: Option<PathFault>, second: Option<PathFault>) -> Option<PathFault>
@@ -90,10 +94,62 @@ fn first_barred(text: &[u8]) -> Option<usize>
     ensures place { result ≡ position is_barred text.now }
     ensures within { IfSome result (λ at. at < length text.now) }
 {
-    text.iter().position(|byte| is_barred(*byte))
+    if has_barred(text) {
+        text.iter().position(|byte| is_barred(*byte))
+    } else {
+        None
+    }
+}
+
+// This form, with no early exit, takes several bytes at a time.
+fn has_barred(text: &[u8]) -> bool
+    ensures { result ≡ fold (λ bad byte. bad || is_barred byte) false text.now }
+{
+    text.iter().fold(false, |bad, byte| bad | is_barred(*byte))
 }
 
 fn component_fault(text: &[u8]) -> Option<PathFault>
+    requires { length text.now ≤ 1024 }
+    ensures { result ≡ component_fault text.now }
+{
+    if has_plain_components(text) {
+        None
+    } else {
+        walked_fault(text)
+    }
+}
+
+// Whether each component has a first byte other than '.', and there are surely no more than 64. Most paths pass.
+fn has_plain_components(text: &[u8]) -> bool
+    ensures { (result ≡ true) → component_fault text.now ≡ None }
+{
+    let [first, rest @ ..] = text else {
+        return false;
+    };
+    let doubtful = is_doubtful(b'/', *first)
+        | (text[text.len() - 1] == b'/')
+        | has_doubtful_pair(text, rest);
+    text.len() < DEEP_FROM && !doubtful
+}
+
+// This form, with no early exit, takes several bytes at a time.
+fn has_doubtful_pair(text: &[u8], rest: &[u8]) -> bool
+    ensures { result ≡ fold (λ found pair. found || is_doubtful pair.0 pair.1) false (zip text.now rest.now) }
+{
+    text.iter().zip(rest).fold(
+        false,
+        |found, (before, byte)| found | is_doubtful(*before, *byte),
+    )
+}
+
+// Whether a component that is empty or begins with '.' may stand between the two bytes.
+fn is_doubtful(before: u8, byte: u8) -> bool
+    ensures { result ≡ is_doubtful before byte }
+{
+    (before == b'/') & ((byte == b'/') | (byte == b'.'))
+}
+
+fn walked_fault(text: &[u8]) -> Option<PathFault>
     requires { length text.now ≤ 1024 }
     ensures { result ≡ component_fault text.now }
 {

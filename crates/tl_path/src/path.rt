@@ -178,6 +178,8 @@ impl Hash for Path {
 }
 
 impl fmt::Display for Path {
+    ghost output = { λ path. Some path };
+
     fn fmt<W: fmt::Write>(&self, f: &mut fmt::Formatter<W>) -> fmt::Result {
         f.write_str(self.text())
     }

@@ -2,7 +2,9 @@
 ghost use Rattle.std.specs.Prelude.{◌≡◌, IfOk, MatchResult, None, Some};
 ghost use Rattle.tl_path.specs.Path.{IsPath, path_fault, form_fault, size_fault};
 ghost use Rattle.tl_path.specs.Components.{components};
+ghost use Rattle.tl_path.specs.Reserved.{is_reserved};
 
+use crate::below::is_reserved;
 use crate::components::Components;
 use crate::fault::{PathFault, PathKind, earlier_of, place_fault, size_fault};
 use crate::path::Path;
@@ -46,6 +48,17 @@ impl<'a> PathRef<'a> {
         PathRef { text }
     }
 
+    /// A path of bytes that are known to be one. Takes no memory.
+    pub fn of_bytes(bytes: &'a [u8]) -> PathRef<'a>
+        requires { IsPath bytes.now }
+        ensures { result ≡ bytes.now }
+    {
+        // A path is UTF-8.
+        PathRef {
+            text: unsafe { std::str::from_utf8_unchecked(bytes) },
+        }
+    }
+
     pub(crate) fn of(text: &'a str) -> PathRef<'a>
         requires { IsPath text.now }
         ensures { result ≡ text.now }
@@ -82,6 +95,13 @@ impl<'a> PathRef<'a> {
         ensures { IfOk result (λ path. path ≡ self.now) }
     {
         Path::of(alloc, self.text())
+    }
+
+    /// Whether the path touches one that the program keeps for itself, as its journal, backups and settings.
+    pub fn is_reserved(&self) -> bool
+        ensures { result ≡ is_reserved self.now }
+    {
+        is_reserved(self.bytes())
     }
 
     /// The path's components, from the first on.

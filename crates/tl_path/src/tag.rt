@@ -129,6 +129,8 @@ impl Hash for Tag {
 }
 
 impl fmt::Display for Tag {
+    ghost output = { λ tag. Some tag };
+
     fn fmt<W: fmt::Write>(&self, f: &mut fmt::Formatter<W>) -> fmt::Result {
         f.write_str(self.text())
     }

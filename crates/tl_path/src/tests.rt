@@ -14,6 +14,7 @@ fn a_path_is_read_and_kept(rt: HostRuntime) -> Result<(), Fail> {
     assert_eq!(rt; path.bytes(), b"texmf-dist/tex/a.sty".as_slice());
     assert_eq!(rt; last_of(path.components()), Some(b"a.sty".as_slice()));
     assert_eq!(rt; path.view().text(), path.text());
+    assert_eq!(rt; PathRef::of_bytes(path.bytes()).text(), path.text());
     assert!(rt; path.clone()? == path);
     let dir = Path::parse(rt.alloc(), b"texmf-dist/tex")?;
     assert!(rt; path.is_below(&dir));

@@ -1,4 +1,7 @@
 // Why a call of a folder failed.
+ghost use Rattle.std.specs.Prelude.{◌≡◌, Some};
+ghost use Rattle.tl_real.specs.Words.{words_of};
+
 use std::alloc::Global;
 use std::{fmt, io};
 
@@ -25,9 +28,12 @@ pub enum Doing {
     Say,
 }
 
-impl fmt::Display for Doing {
-    fn fmt<W: fmt::Write>(&self, f: &mut fmt::Formatter<W>) -> fmt::Result {
-        let words = match self {
+impl Doing {
+    // Takes no memory.
+    fn words(self) -> &'static str
+        ensures { result.now ≡ words_of self }
+    {
+        match self {
             Doing::Lock => "cannot lock",
             Doing::Look => "cannot look for",
             Doing::Read => "cannot read",
@@ -37,8 +43,15 @@ impl fmt::Display for Doing {
             Doing::Remove => "cannot remove",
             Doing::Sync => "cannot make durable",
             Doing::Say => "cannot write to",
-        };
-        f.write_str(words)
+        }
+    }
+}
+
+impl fmt::Display for Doing {
+    ghost output = { λ doing. Some (words_of doing) };
+
+    fn fmt<W: fmt::Write>(&self, f: &mut fmt::Formatter<W>) -> fmt::Result {
+        f.write_str(self.words())
     }
 }
 

@@ -1,3 +1,4 @@
+mod Ends
 pub mod Digits
 pub mod Quotes
 pub mod Runs

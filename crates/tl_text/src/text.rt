@@ -3,6 +3,7 @@ ghost use Rattle.std.specs.Prelude.{◌≡◌, ◌==◌, ◌&&◌, not, nat_le, 
 ghost use Rattle.std.specs.List.{list_all};
 ghost use Rattle.tl_text.specs.Texts.{IsText, IsTextFault};
 
+use memchr::memchr;
 use std::alloc::{AllocError, Global};
 use std::marker::Model;
 use thiserror::Error;
@@ -38,7 +39,10 @@ impl Model for Text {
 fn is_one_line(bytes: &[u8]) -> bool
     ensures { result ≡ list_all (λ b. not (b == 10)) bytes.now }
 {
-    bytes.iter().all(|b| *b != b'\n')
+    match memchr(b'\n', bytes) {
+        Some(_) => false,
+        None => true,
+    }
 }
 
 impl Text {

@@ -8,73 +8,73 @@ ghost use Rattle.tl_tree.specs.Changes.{path_of, bin_paths, own, own_of, leaving
 use crate::change::Part;
 use std::alloc::{AllocError, Global};
 use tl_db::Db;
-use tl_object::{BinFiles, DocFile, Object};
-use tl_path::{Name, Path};
+use tl_object::{BinFiles, DocFile, Object, Paths};
+use tl_path::{Name, Path, PathRef};
 
 // Adds a path, unless it is reserved.
-fn push_own(out: &mut Vec<Path>, path: &Path) -> Result<(), AllocError>
-    ensures { OnOk result (out.new.items ≡ out.old.items ++ filter (λ p. not (is_reserved p)) (path.now ∷ [])) }
+fn push_own(alloc: Global, out: &mut Vec<Path>, path: PathRef<'_>) -> Result<(), AllocError>
+    ensures { OnOk result (out.new.items ≡ out.old.items ++ filter (λ p. not (is_reserved p)) (path.entry ∷ [])) }
 {
     if path.is_reserved() {
         return Ok(());
     }
-    out.push(path.clone()?)?;
+    out.push(path.to_path(alloc)?)?;
     Ok(())
 }
 
-fn push_paths(out: &mut Vec<Path>, paths: &[Path]) -> Result<(), AllocError>
+fn push_paths(alloc: Global, out: &mut Vec<Path>, paths: &Paths) -> Result<(), AllocError>
     ensures { OnOk result (out.new.items ≡ out.old.items ++ filter (λ p. not (is_reserved p)) paths.now) }
 {
-    for path in paths {
-        push_own(out, path)?;
+    for path in paths.iter() {
+        push_own(alloc, out, path)?;
     }
     Ok(())
 }
 
-fn push_docs(out: &mut Vec<Path>, files: &[DocFile]) -> Result<(), AllocError>
+fn push_docs(alloc: Global, out: &mut Vec<Path>, files: &[DocFile]) -> Result<(), AllocError>
     ensures { OnOk result (out.new.items ≡ out.old.items ++ filter (λ p. not (is_reserved p)) (map path_of files.now)) }
 {
     for file in files {
-        push_own(out, &file.path)?;
+        push_own(alloc, out, file.path.view())?;
     }
     Ok(())
 }
 
-fn push_bins(out: &mut Vec<Path>, bins: &[BinFiles]) -> Result<(), AllocError>
+fn push_bins(alloc: Global, out: &mut Vec<Path>, bins: &[BinFiles]) -> Result<(), AllocError>
     ensures { OnOk result (out.new.items ≡ out.old.items ++ filter (λ p. not (is_reserved p)) (flat_map bin_paths bins.now)) }
 {
     for bin in bins {
-        push_paths(out, bin.paths.as_slice())?;
+        push_paths(alloc, out, &bin.paths)?;
     }
     Ok(())
 }
 
 // Adds the files of an entry.
-fn push_entry(out: &mut Vec<Path>, entry: &Object) -> Result<(), AllocError>
+fn push_entry(alloc: Global, out: &mut Vec<Path>, entry: &Object) -> Result<(), AllocError>
     ensures { OnOk result (out.new.items ≡ out.old.items ++ own entry.now) }
 {
-    push_paths(out, entry.run.paths.as_slice())?;
-    push_docs(out, entry.doc.files.as_slice())?;
-    push_paths(out, entry.src.paths.as_slice())?;
-    push_bins(out, entry.bin.as_slice())
+    push_paths(alloc, out, &entry.run.paths)?;
+    push_docs(alloc, out, entry.doc.files.as_slice())?;
+    push_paths(alloc, out, &entry.src.paths)?;
+    push_bins(alloc, out, entry.bin.as_slice())
 }
 
 // Adds the files of the entry with a name, if an entry has it.
-fn push_named(out: &mut Vec<Path>, db: &Db, name: &Name) -> Result<(), AllocError>
+fn push_named(alloc: Global, out: &mut Vec<Path>, db: &Db, name: &Name) -> Result<(), AllocError>
     ensures { OnOk result (out.new.items ≡ out.old.items ++ own_of (entry_of name.now db.now)) }
 {
     match db.get(name) {
-        Some(entry) => push_entry(out, entry),
+        Some(entry) => push_entry(alloc, out, entry),
         None => Ok(()),
     }
 }
 
-fn push_part(out: &mut Vec<Path>, db: &Db, part: &Part) -> Result<(), AllocError>
+fn push_part(alloc: Global, out: &mut Vec<Path>, db: &Db, part: &Part) -> Result<(), AllocError>
     ensures { OnOk result (out.new.items ≡ out.old.items ++ leaving_by db.now part.now) }
 {
     match part {
-        Part::Put { entry, files: _ } => push_named(out, db, &entry.name),
-        Part::Remove { name } => push_named(out, db, name),
+        Part::Put { entry, files: _ } => push_named(alloc, out, db, &entry.name),
+        Part::Remove { name } => push_named(alloc, out, db, name),
         Part::Erase { path } => {
             out.push(path.clone()?)?;
             Ok(())
@@ -89,7 +89,7 @@ pub fn leaving(alloc: Global, db: &Db, parts: &[Part]) -> Result<Vec<Path>, Allo
 {
     let mut out = Vec::new(alloc);
     for part in parts {
-        push_part(&mut out, db, part)?;
+        push_part(alloc, &mut out, db, part)?;
     }
     Ok(out)
 }

@@ -6,28 +6,9 @@ ghost use Rattle.tl_entry.specs.Rising.{is_rising, has_key};
 ghost use Rattle.tl_tree.specs.Changes.{own, path_of, bin_paths};
 ghost use Rattle.tl_tree.specs.Owners.{owner_of};
 
-use std::cmp::Ordering;
 use tl_db::Db;
 use tl_object::{BinFiles, DocFile, Keyed, Object, place_for};
 use tl_path::{Name, Path};
-
-// Whether a path is among some in byte order.
-fn is_among(paths: &[Path], path: &Path) -> bool
-    requires { is_rising (λ p. p) paths.now ≡ true }
-    ensures { result ≡ has_key (λ p. p) path.now paths.now }
-{
-    let mut low = 0;
-    let mut high = paths.len();
-    while low < high {
-        let middle = low + (high - low) / 2;
-        match paths[middle].cmp(path) {
-            Ordering::Less => low = middle + 1,
-            Ordering::Equal => return true,
-            Ordering::Greater => high = middle,
-        }
-    }
-    false
-}
 
 fn is_documented(files: &[DocFile], path: &Path) -> bool
     requires { is_rising (λ file. file.path) files.now ≡ true }
@@ -43,7 +24,7 @@ fn is_binary(bins: &[BinFiles], path: &Path) -> bool
     ensures { result ≡ has_key (λ p. p) path.now (flat_map bin_paths bins.now) }
 {
     for bin in bins {
-        if is_among(bin.paths.as_slice(), path) {
+        if bin.paths.has(path.bytes()) {
             return true;
         }
     }
@@ -55,13 +36,13 @@ fn owns(entry: &Object, path: &Path) -> bool
     requires { is_reserved path.now ≡ false }
     ensures { result ≡ has_key (λ p. p) path.now (own entry.now) }
 {
-    if is_among(entry.run.paths.as_slice(), path) {
+    if entry.run.paths.has(path.bytes()) {
         return true;
     }
     if is_documented(entry.doc.files.as_slice(), path) {
         return true;
     }
-    if is_among(entry.src.paths.as_slice(), path) {
+    if entry.src.paths.has(path.bytes()) {
         return true;
     }
     is_binary(entry.bin.as_slice(), path)

@@ -35,6 +35,6 @@ loop-before-preserved c =
     record {
       same = db-more (db_of c.args.text.now) c.loop-before.objects (content c.loop-before.number c.loop-before.rest.now) (content c.in-Some.before c.in-Some.start.now) (content entry.number entry.rest.now)
           c.in-Ok.named.line c.in-Ok.named.name entry.object c.put.new.self
-          c.loop-before.invariant.same c.in-Some.ensures.same c.in-Some.ensures.full c.in-Ok.ensures.name none read.object read.left read.ended c.in_ok-put.ensures;
+          c.loop-before.invariant.same c.in-Some.ensures.same c.in-Some.ensures.full c.in-Ok.ensures.name none read.object read.left read.ended c.in_ok-put.ensures.ok;
       fits = omega (arith, c.loop-before.invariant.fits, c.in-Some.ensures.fits, read.fits);
     }

@@ -9,10 +9,10 @@ loop-bin-preserved c =
     let bin = c.bin-item.result in let path = c.args.path.now in
     key-bins_more path c.args.bins.now c.loop-bin.bin-index bin (omega arith) c.bin-item.is
     ∙ ap (λ b. b || has_key (λ (p : Name). p) path bin.paths) c.loop-bin.invariant
-    ∙ (ap (λ (ps : List Name). has_key (λ (p : Name). p) path ps) (sym c.as_slice.ensures.items) ∙ sym c.is_among.ensures ∙ c.if-is_among.false)
+    ∙ (ap (λ (n : Name). has_key (λ (p : Name). p) n bin.paths) (sym c.bytes.ensures.bytes) ∙ sym c.has.ensures ∙ c.if-has.false)
 
-pub returns-then-is_among : goal.returns-then-is_among
-returns-then-is_among c =
+pub returns-then-has : goal.returns-then-has
+returns-then-has c =
     let path = c.args.path.now in
     sym (key-bins_at path c.args.bins.now c.loop-bin.bin-index c.bin-item.result (omega arith) c.bin-item.is
-    (ap (λ (ps : List Name). has_key (λ (p : Name). p) path ps) (sym c.as_slice.ensures.items) ∙ sym c.is_among.ensures ∙ c.if-is_among.true))
+    (ap (λ (n : Name). has_key (λ (p : Name). p) n c.bin-item.result.paths) (sym c.bytes.ensures.bytes) ∙ sym c.has.ensures ∙ c.if-has.true))
