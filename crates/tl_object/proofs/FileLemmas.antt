@@ -1,6 +1,6 @@
 -- What the written lines of files say, and the files of a section that is read again.
-use Rattle.std.proofs.Common.{◌≡◌, ℕ, ◌==◌, true, false, cond, not, ◌&&◌, List, [], ◌∷◌, ◌++◌, Option, Some, None, Result, Ok, Err, refl, ◌∙◌, ap, arith, append_assoc}
-use Rattle.std.specs.Prelude.{codes, IfSome, is_none, nat_lt, All}
+use Rattle.std.proofs.Common.{◌≡◌, ℕ, suc, ◌==◌, true, false, cond, not, ◌&&◌, List, [], ◌∷◌, ◌++◌, ◌-◌, length, take, drop, Option, Some, None, Result, Ok, Err, refl, sym, subst, ◌∙◌, ap, arith, append_assoc}
+use Rattle.std.specs.Prelude.{codes, IfSome, MatchResult, is_none, nat_lt, All}
 use Rattle.std.specs.List.{list_all}
 use Rattle.std.specs.Option.{option_and_then}
 use Rattle.std.specs.Str.{IsUtf8, bytes_eq}
@@ -16,16 +16,21 @@ use Rattle.tl_path.specs.declared.fault.PathFault.{PathFault}
 use Rattle.tl_object.specs.Cuts.{cut}
 use Rattle.tl_entry.specs.Forms.{has_no_quote}
 use Rattle.tl_entry.specs.Parts.{FileEntry}
-use Rattle.tl_object.specs.Values.{◌>>=◌, formed, path_value, stripped}
+use Rattle.tl_object.specs.Values.{◌>>=◌, Gives, Fails, formed, path_value, stripped}
 use Rattle.tl_object.specs.Grammar.{line_value, line_form, file_value, file_with, marked_file, marks_value, marks_from, mark_value, second_mark, last_mark, quoted, language_word}
 use Rattle.tl_object.specs.Writing.{mark_text}
 use Rattle.tl_object.specs.Formed.{IsMark, IsFormedFile}
 use Rattle.tl_object.specs.Again.{IsFull}
+use Rattle.tl_object.specs.Steps.{is_file_line}
+use Rattle.tl_object.specs.declared.fault.LineFault.{LineFault}
+use Rattle.tl_object.specs.declared.fault.LineFault.TheVariants as faults
 use Rattle.tl_object.specs.declared.fault.LineKind.{LineKind}
 use Rattle.tl_object.specs.declared.fault.LineKind.TheVariants as kinds
+use Rattle.tl_object.specs.declared.head.Line.{Line}
 use Rattle.tl_object.specs.declared.head.Line.TheVariants as lines
+use Rattle.tl_object.proofs.LineLemmas.{line_value-utf8}
 use Rattle.tl_object.proofs.PlainLemmas.{line_append, line_spaced, line_of_path, unbarred, line_tested}
-use Rattle.tl_object.proofs.ValueLemmas.{not_nil, ascii_tested, utf8_spaced, utf8_of_path, cut_at, cut_nowhere, stripped_front}
+use Rattle.tl_object.proofs.ValueLemmas.{not_nil, ascii_tested, utf8_spaced, utf8_of_path, take_whole, cut_at, cut_nowhere, stripped_front}
 
 -- ---- the line of a file
 
@@ -123,6 +128,48 @@ mark_line : (word : List ℕ) (mark : Option (List ℕ)) → IsLine word → IfS
 mark_line word None is form = All-nil (λ b. (b == 10) ≡ false)
 mark_line word (Some text) is form =
     line_append ((32 ∷ word) ++ text) (34 ∷ []) (line_append (32 ∷ word) text (line_spaced word is) (IsLine-from_text text form.0)) (line_tested (34 ∷ []) refl)
+
+-- ---- a line that begins with a space
+
+-- what stands behind the first byte of a line
+abbrev pub after_first : List ℕ → List ℕ
+after_first line = take (length line - 1) (drop 1 line)
+
+space : (b : ℕ) → (b == 32) ≡ true → b ≡ 32
+space b is = grind (arith, nat_tests)
+
+less_one : (n : ℕ) → suc n - 1 ≡ n
+less_one n = omega arith
+
+-- a line that begins with a space, and the text behind it
+spaced : (line : List ℕ) → is_file_line line ≡ true → line ≡ 32 ∷ after_first line
+spaced [] is = absurd (cc)
+spaced (b ∷ text) is = ap (λ (first : ℕ). first ∷ text) (space b is) ∙ ap (λ (rest : List ℕ). 32 ∷ rest) (sym (ap (λ n. take n text) (less_one (length text)) ∙ take_whole text))
+
+abbrev filed : Result FileEntry LineKind → Result Line LineKind
+filed file = file >>= λ f. Ok (lines.File f)
+
+spaced_alone : (path : List ℕ) → IsPath path → line_value (32 ∷ path) ≡ Ok (lines.File (entry path None None))
+spaced_alone path is = line_value-utf8 (32 ∷ path) (utf8_spaced path (utf8_of_path path is)) ∙ ap filed (file_alone path is)
+
+-- a line whose space stands before a path alone says that path's file
+pub line_alone : (line : List ℕ) → is_file_line line ≡ true → IsPath (after_first line) → line_value line ≡ Ok (lines.File (entry (after_first line) None None))
+line_alone line starts is = ap line_value (spaced line starts) ∙ spaced_alone (after_first line) is
+
+form_filed : (text : List ℕ) (found : Result FileEntry LineFault) → Gives found (file_value text)
+    → MatchResult found (λ file. line_form (32 ∷ text) ≡ Ok (lines.File file)) (λ e. Fails e (line_form (32 ∷ text)))
+form_filed text (Ok file) is = ap filed is
+form_filed text (Err faults.NoMemory) is = tt
+form_filed text (Err (faults.Bad kind)) is = ap filed is
+
+-- a line that begins with a space says what the text behind it says of a file
+pub line_filed : (line : List ℕ) (found : Result FileEntry LineFault) → is_file_line line ≡ true → IsUtf8 line → Gives found (file_value (after_first line))
+    → MatchResult found (λ file. line_value line ≡ Ok (lines.File file)) (λ e. Fails e (line_value line))
+line_filed line found starts utf8 is =
+    let said : line_value line ≡ line_form (32 ∷ after_first line) = line_value-utf8 line utf8 ∙ ap line_form (spaced line starts) in
+    subst (λ (r : Result Line LineKind). MatchResult found (λ file. r ≡ Ok (lines.File file)) (λ e. Fails e r)) (sym said) (form_filed (after_first line) found is)
+
+-- ---- the written line of a file
 
 -- the line of a file says the file
 pub file_says : (file : FileEntry) → IsFormedFile file → line_value (file_text file) ≡ Ok (lines.File file)

@@ -73,7 +73,8 @@ valid_len_all bytes m is = by_test (is_utf8 (take (suc m) bytes)) (valid_len_le 
     by_test true le is = refl
     by_test false le is = absurd (omega arith)
 
-take_whole : (bytes : List ℕ) → take (length bytes) bytes ≡ bytes
+-- a text is its front of its own length
+pub take_whole : (bytes : List ℕ) → take (length bytes) bytes ≡ bytes
 take_whole [] = refl
 take_whole (b ∷ bytes) = ap (λ (bs : List ℕ). b ∷ bs) (take_whole bytes)
 

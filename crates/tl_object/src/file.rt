@@ -1,8 +1,10 @@
 //! The lines of files.
-ghost use Rattle.std.specs.Prelude.{◌≡◌, List, IfOk, IfSome, MatchOption, Some, None, true};
+ghost use Rattle.std.specs.Prelude.{◌≡◌, List, Ok, IfOk, IfSome, MatchOption, MatchResult, Some, None, true};
 ghost use Rattle.tl_entry.specs.Forms.{has_no_quote, is_unquoted};
-ghost use Rattle.tl_object.specs.Values.{Gives};
-ghost use Rattle.tl_object.specs.Grammar.{quoted, mark_value, second_mark, marked_file, file_value};
+ghost use Rattle.tl_object.specs.Values.{Gives, Fails};
+ghost use Rattle.tl_object.specs.Grammar.{quoted, mark_value, second_mark, marked_file, file_value, line_value};
+ghost use Rattle.tl_object.specs.Steps.{is_file_line};
+ghost use Rattle.tl_object.specs.declared.head.Line.TheVariants as lines;
 
 use crate::fault::{LineFault, LineKind};
 use crate::source::cut_at;
@@ -101,10 +103,34 @@ fn marked_file<'a>(
     })
 }
 
-/// The file of a line, without the space at its front. Most lines are a path alone, which is looked at first.
+/// The file of a line, without the space at its front.
 pub(crate) fn file_of(alloc: Global, text: &[u8]) -> Result<FileLine<'_>, LineFault>
     ensures { Gives result (file_value text.now) }
 {
+    match cut_at(text, b' ') {
+        None => {
+            let path = path_of(text)?;
+            Ok(FileLine {
+                path,
+                details: None,
+                language: None,
+            })
+        }
+        Some((path, marks)) => {
+            let path = path_of(path)?;
+            marked_file(alloc, path, marks)
+        }
+    }
+}
+
+/// The file of a line that begins with a space. Most lines are a path alone, which is looked at first.
+pub(crate) fn file_of_line(alloc: Global, line: &[u8]) -> Result<FileLine<'_>, LineFault>
+    requires { is_file_line line.now ≡ true }
+    ensures { MatchResult result (λ file. line_value line.now ≡ Ok (lines.File file)) (λ e. Fails e (line_value line.now)) }
+{
+    let [b' ', text @ ..] = line else {
+        unreachable!()
+    };
     if let Ok(path) = PathRef::check(text) {
         return Ok(FileLine {
             path,
@@ -112,11 +138,8 @@ pub(crate) fn file_of(alloc: Global, text: &[u8]) -> Result<FileLine<'_>, LineFa
             language: None,
         });
     }
-    match cut_at(text, b' ') {
-        None => Err(BAD_FILE),
-        Some((path, marks)) => {
-            let path = path_of(path)?;
-            marked_file(alloc, path, marks)
-        }
+    match str::from_utf8(line) {
+        Ok(_) => file_of(alloc, text),
+        Err(_) => Err(LineFault::Bad(LineKind::Utf8)),
     }
 }

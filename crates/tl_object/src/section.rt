@@ -6,8 +6,7 @@ ghost use Rattle.tl_object.specs.Reading.{placed, Plain, Marked};
 ghost use Rattle.tl_object.specs.Steps.{bare, is_file_line, file_step, AreRead, FilesFail};
 
 use crate::fault::{LineFault, LineKind, ObjectError};
-use crate::file::FileLine;
-use crate::head::{Line, line_of};
+use crate::file::{FileLine, file_of_line};
 use crate::source::next_entry_line;
 use std::alloc::Global;
 use tl_entry::{DocFile, DocFileList, Gathered, GatheredPaths, Paths};
@@ -101,10 +100,8 @@ fn read_file<S: SectionFiles>(alloc: Global, files: &mut S, line: &[u8]) -> Resu
     requires { is_file_line line.now ≡ true }
     ensures { MatchResult result (λ _. file_step S.place (S.entries files.old) line.now ≡ Ok (S.entries files.new)) (λ e. Fails e (file_step S.place (S.entries files.old) line.now)) }
 {
-    match line_of(alloc, line)? {
-        Line::File(file) => files.put(alloc, file),
-        Line::Head(_) => unreachable!(),
-    }
+    let file = file_of_line(alloc, line)?;
+    files.put(alloc, file)
 }
 
 /// The files of the lines at the front of a text that are files', and the text behind them.
