@@ -23,8 +23,8 @@ use Rattle.tl_object.specs.declared.fault.LineKind.{LineKind}
 use Rattle.tl_object.specs.declared.fault.LineKind.TheVariants as kinds
 use Rattle.tl_object.specs.declared.head.Head.{Head}
 use Rattle.tl_object.specs.declared.head.Head.TheVariants as heads
-use Rattle.tl_object.specs.declared.head.Line.{Line}
-use Rattle.tl_object.specs.declared.head.Line.TheVariants as says
+use Rattle.tl_object.specs.Line.{Line}
+use Rattle.tl_object.specs.Line as says
 use Rattle.tl_object.specs.declared.builder.Builder.{Builder}
 use Rattle.tl_object.proofs.BuiltLemmas.{built-put, known-repeated, named-more}
 use Rattle.tl_object.proofs.ReadingLemmas.{group, Behind, file_next}

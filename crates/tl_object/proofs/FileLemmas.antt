@@ -26,8 +26,8 @@ use Rattle.tl_object.specs.declared.fault.LineFault.{LineFault}
 use Rattle.tl_object.specs.declared.fault.LineFault.TheVariants as faults
 use Rattle.tl_object.specs.declared.fault.LineKind.{LineKind}
 use Rattle.tl_object.specs.declared.fault.LineKind.TheVariants as kinds
-use Rattle.tl_object.specs.declared.head.Line.{Line}
-use Rattle.tl_object.specs.declared.head.Line.TheVariants as lines
+use Rattle.tl_object.specs.Line.{Line}
+use Rattle.tl_object.specs.Line as lines
 use Rattle.tl_object.proofs.LineLemmas.{line_value-utf8}
 use Rattle.tl_object.proofs.PlainLemmas.{line_append, line_spaced, line_of_path, unbarred, line_tested}
 use Rattle.tl_object.proofs.ValueLemmas.{not_nil, ascii_tested, utf8_spaced, utf8_of_path, take_whole, cut_at, cut_nowhere, stripped_front}

@@ -31,7 +31,7 @@ use Rattle.tl_object.specs.declared.key.Part.{Part}
 use Rattle.tl_object.specs.declared.key.Part.TheVariants.{Run, Doc, Src}
 use Rattle.tl_object.specs.declared.head.Head.{Head}
 use Rattle.tl_object.specs.declared.head.Head.TheVariants as heads
-use Rattle.tl_object.specs.declared.head.Line.TheVariants as lines
+use Rattle.tl_object.specs.Line as lines
 use Rattle.tl_object.proofs.PlainLemmas.{line_append, line_spaced, line_of_number, line_of_platform, line_of_digest, line_tested}
 use Rattle.tl_object.proofs.ValueLemmas.{both, not_nil, ascii_by, ascii_tested, utf8_of_number, utf8_spaced, utf8_of_digest, cut_at, stripped_front, short_number, number_again, length-digest, digest_again}
 

@@ -1,12 +1,13 @@
 -- Steps of the reading of an entry.
-use Rattle.std.proofs.Common.{◌≡◌, ℕ, Bool, true, false, cond, not, ◌⊎◌, inl, inr, List, [], ◌∷◌, ◌++◌, Result, Ok, Err, refl, sym, ap, subst, ◌∙◌}
+use Rattle.std.proofs.Common.{◌≡◌, ℕ, ◌==◌, Bool, true, false, cond, not, ◌⊎◌, inl, inr, List, [], ◌∷◌, ◌++◌, Option, Some, Result, Ok, Err, refl, sym, ap, subst, ◌∙◌}
 use Rattle.std.specs.Prelude.{is_some}
 use Rattle.std.specs.Str.{is_utf8}
 use Rattle.tl_entry.specs.Parts.{FileEntry}
+use Rattle.tl_object.specs.Cuts.{cut, onto_front}
 use Rattle.tl_object.specs.Values.{◌>>=◌, Fails}
-use Rattle.tl_object.specs.Grammar.{line_value, line_form, head_value, file_value}
+use Rattle.tl_object.specs.Grammar.{line_value, line_form, head_value, head_alone, head_of_line, file_value}
 use Rattle.tl_object.specs.Groups.{Group, only, name_of}
-use Rattle.tl_object.specs.Reading.{Place, Nowhere, placed, place_of, with_file, with_line, next_groups, at_line, reading, entry_groups, as_object, first_name, name_at, FailsAt}
+use Rattle.tl_object.specs.Reading.{Place, Nowhere, placed, place_of, with_file, with_line, names, named, next_groups, at_line, reading, entry_groups, as_object, first_name, name_at, FailsAt}
 use Rattle.tl_object.specs.Steps.{is_file_line, file_step, file_in, head_step, head_in, head_is_next, IsSection, fault_at}
 use Rattle.tl_object.specs.declared.fault.ObjectError.TheVariants as errors
 use Rattle.tl_entry.specs.declared.object.Object.{Object}
@@ -19,8 +20,8 @@ use Rattle.tl_object.specs.declared.fault.LineFault.{LineFault}
 use Rattle.tl_object.specs.declared.fault.LineFault.TheVariants as faults
 use Rattle.tl_object.specs.declared.head.Head.{Head}
 use Rattle.tl_object.specs.declared.head.Head.TheVariants as heads
-use Rattle.tl_object.specs.declared.head.Line.{Line}
-use Rattle.tl_object.specs.declared.head.Line.TheVariants as lines
+use Rattle.tl_object.specs.Line.{Line}
+use Rattle.tl_object.specs.Line as lines
 use Rattle.tl_object.specs.declared.builder.Builder.{Builder}
 use Rattle.std.proofs.lemmas.Bool.{true≢false}
 use Rattle.tl_object.proofs.BuiltLemmas.{built-put, known-repeated, named-more, put-name}
@@ -175,7 +176,7 @@ refuses groups number line rest some (inr next) file says =
     absurd (true≢false (ap is_file_result (sym says) ∙ none))
 
 head_by : (r : Result Line LineKind) (groups : List Group) (builder : Builder) → ((file : FileEntry) → r ≡ Ok (lines.File file) → with_file groups file ≡ Err kinds.File) → builder ≡ built groups → is_some (only name_of groups) ≡ true
-    → (r >>= with_line groups) ≡ ((r >>= head_in builder) >>= λ head. Ok (groups ++ group head [] ∷ []))
+    → (r >>= with_line groups) ≡ (((r >>= head_alone) >>= head_in builder) >>= λ head. Ok (groups ++ group head [] ∷ []))
 head_by (Ok (lines.Head head)) groups builder refused kept named =
     ap (λ b. cond b (Err kinds.Repeated) (Ok (groups ++ group head [] ∷ []))) (known-repeated groups head named ∙ ap (λ (b : Builder). is_known b head) (sym kept))
     ∙ picked (is_known builder head) head groups
@@ -195,16 +196,33 @@ head_next groups builder number line all rest so_far =
     subst (λ (gs : List Group). next_groups gs line ≡ (line_value line >>= with_line gs)) (sym some.1.1) (next_groups-behind some.0 some.1.0 line) in
     behind ∙ head_by (line_value line) groups builder (refuses groups number line rest some so_far.next) so_far.kept so_far.named
 
+names_no_file : (line : List ℕ) → names line (cut 32 line) ≡ true → is_file_line line ≡ false
+names_no_file [] is = absurd (cc)
+names_no_file (b ∷ text) is = by_test (b == 32) (onto_front b (cut 32 text)) is
+  where
+    by_test : (t : Bool) (other : Option (List ℕ × List ℕ)) → names (b ∷ text) (cond t (Some ([], text)) other) ≡ true → t ≡ false
+    by_test true other is = absurd (cc)
+    by_test false other is = refl
+
+named_alone : (r : Result Line LineKind) → is_file_result r ≡ false → (r >>= named) ≡ ((r >>= head_alone) >>= λ head. named (lines.Head head))
+named_alone (Ok (lines.Head head)) none = refl
+named_alone (Ok (lines.File file)) none = absurd (cc)
+named_alone (Err e) none = refl
+
+-- what an entry's first line gives, where its key is the name's
+pub name-alone : (line : List ℕ) → names line (cut 32 line) ≡ true → next_groups [] line ≡ (head_of_line line >>= λ head. named (lines.Head head))
+name-alone line is =
+    ap (λ t. cond t (line_value line >>= named) (Err kinds.Missing)) is ∙ named_alone (line_value line) (no_file line (names_no_file line is))
+
 abbrev name_result : ℕ → List ℕ → Result (ℕ × List ℕ) (ℕ × LineKind)
 name_result number name = Ok (number, name)
 
-known_of : (r : Result Line LineKind) (builder : Builder) (head : Head) → (r >>= head_in builder) ≡ Ok head → is_known builder head ≡ false
-known_of (Ok (lines.Head h)) builder head e = picked (is_known builder h) refl e
+known_of : (r : Result Head LineKind) (builder : Builder) (head : Head) → (r >>= head_in builder) ≡ Ok head → is_known builder head ≡ false
+known_of (Ok h) builder head e = picked (is_known builder h) refl e
   where
     picked : (b : Bool) → is_known builder h ≡ b → cond b (Err kinds.Repeated) (Ok h) ≡ Ok head → is_known builder head ≡ false
     picked true is e = absurd (cc)
     picked false is e = let same : h ≡ head = cc in subst (λ (x : Head). is_known builder x ≡ false) same is
-known_of (Ok (lines.File file)) builder head e = absurd (cc)
 known_of (Err k) builder head e = absurd (cc)
 
 pub reached-more : (groups : List Group) (builder : Builder) (all rest left : List (ℕ × List ℕ)) (now : List (ℕ × List ℕ)) (number : ℕ) (line : List ℕ) (head : Head) (files : List FileEntry) (more : Builder)
@@ -220,7 +238,7 @@ reached-more groups builder all rest left now number line head files more so_far
       same = so_far.same ∙ ap (reading groups) is ∙ ap (λ (r : Result (List Group) LineKind). at_line number r (λ gs. reading gs rest)) one ∙ section groups head refl;
       some = (groups, (group head files, refl));
       next = next;
-      name = (so_far.name.0, so_far.name.1 ∙ ap (λ (n : List ℕ). name_result so_far.name.0 n) (sym (ap (λ (b : Builder). b.name) after ∙ put-name builder head files (known_of (line_value line) builder head step))));
+      name = (so_far.name.0, so_far.name.1 ∙ ap (λ (n : List ℕ). name_result so_far.name.0 n) (sym (ap (λ (b : Builder). b.name) after ∙ put-name builder head files (known_of (head_of_line line) builder head step))));
     }
 
 line_fails : (e : LineFault) (number : ℕ) (groups : List Group) (builder : Builder) (line : List ℕ) (rest : List (ℕ × List ℕ)) (total : Result (List Group) (ℕ × LineKind))
@@ -255,7 +273,7 @@ name-fails (faults.Bad kind) number line all rest is fails =
 
 -- what a step gives isn't known yet
 pub step-unknown : (builder : Builder) (line : List ℕ) (head : Head) → head_step builder line ≡ Ok head → is_known builder head ≡ false
-step-unknown builder line head e = known_of (line_value line) builder head e
+step-unknown builder line head e = known_of (head_of_line line) builder head e
 
 -- the entry of the parts that were read
 pub object-read : (read : Result (List Group) (ℕ × LineKind)) (parts : Builder) (groups : List Group) (object : Object) → read ≡ Ok groups → parts ≡ built groups → object ≡ finished parts → as_object read ≡ Ok object

@@ -13,8 +13,8 @@ use Rattle.tl_object.specs.declared.key.Key.{Key}
 use Rattle.tl_object.specs.declared.key.Key.TheVariants as keys
 use Rattle.tl_object.specs.declared.head.Head.{Head}
 use Rattle.tl_object.specs.declared.head.Head.TheVariants as heads
-use Rattle.tl_object.specs.declared.head.Line.{Line}
-use Rattle.tl_object.specs.declared.head.Line.TheVariants as lines
+use Rattle.tl_object.specs.Line.{Line}
+use Rattle.tl_object.specs.Line as lines
 use Rattle.tl_entry.specs.Parts.{FileEntry}
 
 -- ---- the lines of files
@@ -140,3 +140,12 @@ line_form (b ∷ text) =
 -- what a line says by itself, or its first fault
 abbrev pub line_value : List ℕ → Result Line LineKind
 line_value line = if is_utf8 line then line_form line else Err kinds.Utf8
+
+-- what a line says that is no file's
+abbrev pub head_alone : Line → Result Head LineKind
+head_alone (lines.Head head) = Ok head
+head_alone (lines.File file) = Err kinds.File
+
+-- what a line says that is no file's, or its first fault: no file may stand here
+abbrev pub head_of_line : List ℕ → Result Head LineKind
+head_of_line line = line_value line >>= head_alone

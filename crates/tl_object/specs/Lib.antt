@@ -2,6 +2,7 @@ pub mod Keys
 pub mod Content
 pub mod Cuts
 pub mod Values
+pub mod Line
 pub mod Grammar
 pub mod Groups
 pub mod Reading

@@ -15,8 +15,8 @@ use Rattle.tl_object.specs.declared.fault.ObjectError.TheVariants as errors
 use Rattle.tl_object.specs.declared.key.Part.TheVariants.{Run, Doc, Src}
 use Rattle.tl_object.specs.declared.head.Head.{Head}
 use Rattle.tl_object.specs.declared.head.Head.TheVariants as heads
-use Rattle.tl_object.specs.declared.head.Line.{Line}
-use Rattle.tl_object.specs.declared.head.Line.TheVariants as lines
+use Rattle.tl_object.specs.Line.{Line}
+use Rattle.tl_object.specs.Line as lines
 use Rattle.tl_entry.specs.declared.object.Object.{Object}
 
 -- whether lines of files may follow a line, and whether they may state details and a language

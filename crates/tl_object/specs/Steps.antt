@@ -2,7 +2,7 @@
 use Rattle.std.specs.Prelude.{◌≡◌, ◌⊎◌, ℕ, ◌+◌, ◌≤◌, ◌==◌, Bool, true, false, not, if◌then◌else◌, List, [], ◌∷◌, ◌++◌, length, None, Result, Ok, Err}
 use Rattle.tl_entry.specs.Parts.{FileEntry}
 use Rattle.tl_object.specs.Values.{◌>>=◌}
-use Rattle.tl_object.specs.Grammar.{line_value}
+use Rattle.tl_object.specs.Grammar.{line_value, head_of_line}
 use Rattle.tl_object.specs.Groups.{Group}
 use Rattle.tl_object.specs.Content.{content, entry_lines, lines_left}
 use Rattle.tl_object.specs.Reading.{Place, Nowhere, placed, place_of, reading, FailsAt}
@@ -15,8 +15,8 @@ use Rattle.tl_object.specs.declared.fault.ObjectError.{ObjectError}
 use Rattle.tl_object.specs.declared.fault.ObjectError.TheVariants as errors
 use Rattle.tl_object.specs.declared.builder.Builder.{Builder}
 use Rattle.tl_object.specs.declared.head.Head.{Head}
-use Rattle.tl_object.specs.declared.head.Line.{Line}
-use Rattle.tl_object.specs.declared.head.Line.TheVariants as lines
+use Rattle.tl_object.specs.Line.{Line}
+use Rattle.tl_object.specs.Line as lines
 
 -- the file of a path alone
 abbrev pub bare : List ℕ → FileEntry
@@ -61,14 +61,13 @@ abbrev pub FilesFail : ObjectError → Place → List (ℕ × List ℕ) → Type
 FilesFail e place before =
     (groups : List Group) (head : Head) → place_of head ≡ place → FailsAt e (reading (groups ++ record { head = head; files = [] } ∷ []) before)
 
--- what a line says that is no file's, where it isn't known yet
-abbrev pub head_in : Builder → Line → Result Head LineKind
-head_in builder (lines.Head head) = if is_known builder head then Err kinds.Repeated else Ok head
-head_in builder (lines.File file) = Err kinds.File
+-- what a line says, where it isn't known yet
+abbrev pub head_in : Builder → Head → Result Head LineKind
+head_in builder head = if is_known builder head then Err kinds.Repeated else Ok head
 
 -- what a line says that is no file's and isn't known yet
 abbrev pub head_step : Builder → List ℕ → Result Head LineKind
-head_step builder line = line_value line >>= head_in builder
+head_step builder line = head_of_line line >>= head_in builder
 
 -- the fault of a line, with its number
 abbrev pub fault_at : ℕ → LineFault → ObjectError

@@ -4,7 +4,7 @@ ghost use Rattle.tl_entry.specs.Forms.{has_no_quote, is_unquoted};
 ghost use Rattle.tl_object.specs.Values.{Gives, Fails};
 ghost use Rattle.tl_object.specs.Grammar.{quoted, mark_value, second_mark, marked_file, file_value, line_value};
 ghost use Rattle.tl_object.specs.Steps.{is_file_line};
-ghost use Rattle.tl_object.specs.declared.head.Line.TheVariants as lines;
+ghost use Rattle.tl_object.specs.Line as lines;
 
 use crate::fault::{LineFault, LineKind};
 use crate::source::cut_at;
@@ -104,7 +104,7 @@ fn marked_file<'a>(
 }
 
 /// The file of a line, without the space at its front.
-pub(crate) fn file_of(alloc: Global, text: &[u8]) -> Result<FileLine<'_>, LineFault>
+fn file_of(alloc: Global, text: &[u8]) -> Result<FileLine<'_>, LineFault>
     ensures { Gives result (file_value text.now) }
 {
     match cut_at(text, b' ') {
@@ -120,6 +120,16 @@ pub(crate) fn file_of(alloc: Global, text: &[u8]) -> Result<FileLine<'_>, LineFa
             let path = path_of(path)?;
             marked_file(alloc, path, marks)
         }
+    }
+}
+
+/// Whether a line begins as a file's does.
+pub(crate) fn starts_file(line: &[u8]) -> bool
+    ensures { result ≡ is_file_line line.now }
+{
+    match line {
+        [b' ', ..] => true,
+        _ => false,
     }
 }
 

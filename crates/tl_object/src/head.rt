@@ -2,10 +2,10 @@
 ghost use Rattle.std.specs.Prelude.{◌≡◌, List, IfOk, true};
 ghost use Rattle.tl_entry.specs.Forms.{is_fact_key};
 ghost use Rattle.tl_object.specs.Values.{Gives};
-ghost use Rattle.tl_object.specs.Grammar.{head_of, fact_of, keyed, head_value, line_form, line_value};
+ghost use Rattle.tl_object.specs.Grammar.{head_of, fact_of, keyed, head_value, head_of_line};
 
 use crate::fault::{LineFault, LineKind};
-use crate::file::{FileLine, file_of};
+use crate::file::starts_file;
 use crate::key::{Key, Part, key_of};
 use crate::source::cut_at;
 use crate::value::{
@@ -35,13 +35,6 @@ pub enum Head {
     Files(Part, u64),
     Binfiles(Platform, u64),
     Fact(Fact),
-}
-
-/// What a line says.
-#[derive(Drop)]
-pub enum Line<'a> {
-    Head(Head),
-    File(FileLine<'a>),
 }
 
 fn head_of(alloc: Global, key: Key, value: &[u8]) -> Result<Head, LineFault>
@@ -113,27 +106,13 @@ fn head_value(alloc: Global, line: &[u8]) -> Result<Head, LineFault>
     }
 }
 
-fn line_form(alloc: Global, line: &[u8]) -> Result<Line<'_>, LineFault>
-    ensures { Gives result (line_form line.now) }
-{
-    match line {
-        [b' ', text @ ..] => {
-            let file = file_of(alloc, text)?;
-            Ok(Line::File(file))
-        }
-        _ => {
-            let head = head_value(alloc, line)?;
-            Ok(Line::Head(head))
-        }
-    }
-}
-
-/// What a line says by itself, or its first fault.
-pub(crate) fn line_of(alloc: Global, line: &[u8]) -> Result<Line<'_>, LineFault>
-    ensures { Gives result (line_value line.now) }
+/// What a line says that is no file's, or its first fault. A file's line is at fault here.
+pub(crate) fn head_of_line(alloc: Global, line: &[u8]) -> Result<Head, LineFault>
+    ensures { Gives result (head_of_line line.now) }
 {
     match str::from_utf8(line) {
-        Ok(_) => line_form(alloc, line),
+        Ok(_) if starts_file(line) => Err(LineFault::Bad(LineKind::File)),
+        Ok(_) => head_value(alloc, line),
         Err(_) => Err(LineFault::Bad(LineKind::Utf8)),
     }
 }

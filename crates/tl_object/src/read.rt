@@ -13,7 +13,7 @@ ghost use Rattle.tl_entry.specs.Parts.{FileEntry};
 
 use crate::builder::Builder;
 use crate::fault::{LineFault, LineKind, ObjectError};
-use crate::head::{Head, Line, line_of};
+use crate::head::{Head, head_of_line};
 use crate::key::Part;
 use crate::section::{After, read_docs, read_paths};
 use crate::source::{cut_at, next_entry_line};
@@ -25,15 +25,11 @@ use tl_path::Name;
 fn read_head(alloc: Global, builder: &Builder, line: &[u8]) -> Result<Head, LineFault>
     ensures { Gives result (head_step builder.now line.now) }
 {
-    match line_of(alloc, line)? {
-        Line::Head(head) => {
-            if builder.is_known(&head) {
-                Err(LineFault::Bad(LineKind::Repeated))
-            } else {
-                Ok(head)
-            }
-        }
-        Line::File(_) => Err(LineFault::Bad(LineKind::File)),
+    let head = head_of_line(alloc, line)?;
+    if builder.is_known(&head) {
+        Err(LineFault::Bad(LineKind::Repeated))
+    } else {
+        Ok(head)
     }
 }
 
@@ -53,8 +49,8 @@ fn read_name(alloc: Global, line: &[u8]) -> Result<Name, LineFault>
     if !says_name(line) {
         return Err(LineFault::Bad(LineKind::Missing));
     }
-    match line_of(alloc, line)? {
-        Line::Head(Head::Name(name)) => Ok(name),
+    match head_of_line(alloc, line)? {
+        Head::Name(name) => Ok(name),
         _ => Err(LineFault::Bad(LineKind::Missing)),
     }
 }

@@ -6,7 +6,7 @@ ghost use Rattle.tl_object.specs.Reading.{placed, Plain, Marked};
 ghost use Rattle.tl_object.specs.Steps.{bare, is_file_line, file_step, AreRead, FilesFail};
 
 use crate::fault::{LineFault, LineKind, ObjectError};
-use crate::file::{FileLine, file_of_line};
+use crate::file::{FileLine, file_of_line, starts_file};
 use crate::source::next_entry_line;
 use std::alloc::Global;
 use tl_entry::{DocFile, DocFileList, Gathered, GatheredPaths, Paths};
@@ -85,15 +85,6 @@ pub(crate) struct After<'a> {
 pub(crate) struct Section<'a, S> {
     pub files: S,
     pub after: After<'a>,
-}
-
-fn starts_file(line: &[u8]) -> bool
-    ensures { result ≡ is_file_line line.now }
-{
-    match line {
-        [b' ', ..] => true,
-        _ => false,
-    }
 }
 
 fn read_file<S: SectionFiles>(alloc: Global, files: &mut S, line: &[u8]) -> Result<(), LineFault>

@@ -1,6 +1,6 @@
 use Rattle.std.proofs.Common.{◌≡◌, sym, subst, List, ℕ, Ok, None}
 use Rattle.tl_object.specs.Grammar.{line_value}
-use Rattle.tl_object.specs.declared.head.Line.TheVariants as lines
+use Rattle.tl_object.specs.Line as lines
 use Rattle.tl_object.proofs.FileLemmas.{entry, line_alone, line_filed}
 use Rattle.tl_object.proofs.LineLemmas.{line_value-other}
 use Rattle.tl_object.proofs.file.file_of_line.Goals as goal
