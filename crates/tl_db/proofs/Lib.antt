@@ -7,3 +7,4 @@ pub mod AgainLemmas
 pub mod SpelledLemmas
 pub mod SettingLemmas
 pub mod KeptLemmas
+pub mod CanonicalLemmas

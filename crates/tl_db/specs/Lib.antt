@@ -3,3 +3,4 @@ pub mod Reading
 pub mod Entries
 pub mod Options
 pub mod Kept
+pub mod Canonical

@@ -1,6 +1,7 @@
 //! The package database: its entries by name, read and written.
 #![tactic(auto)]
 
+mod canonical;
 mod db;
 mod fault;
 mod installation;
@@ -20,6 +21,7 @@ mod repo;
 mod tests;
 mod write;
 
+pub use canonical::canonical_text;
 pub use db::{Db, Entries};
 pub use fault::{DbError, What};
 pub use kept::KeptDb;

@@ -9,9 +9,9 @@ use std::alloc::Global;
 use tl_entry::Gathered;
 use tl_object::{LineKind, ObjectError, next_entry, read_entry, read_entry_name};
 
-const MOST_BYTES: u64 = 268_435_456;
+pub(crate) const MOST_BYTES: u64 = 268_435_456;
 
-const MOST_PACKAGES: u64 = 65_536;
+pub(crate) const MOST_PACKAGES: u64 = 65_536;
 
 fn read_all(alloc: Global, text: &[u8]) -> Result<Db, ObjectError>
     requires { length text.now < 2 ^ 32 }

@@ -45,6 +45,39 @@ fn a_database_in_order_is_written_as_it_was_read(rt: HostRuntime) -> Result<(), 
     Ok(())
 }
 
+fn canonical(alloc: Global, text: &[u8]) -> Result<Vec<u8>, DbError> {
+    match Vec::from_slice(alloc, text) {
+        Ok(text) => canonical_text(alloc, text),
+        Err(_) => Err(DbError::NoMemory),
+    }
+}
+
+#[test]
+fn a_text_is_brought_into_canonical_form(rt: HostRuntime) -> Result<(), Fail> {
+    let a = "name a\ncategory Package\nrevision 0\n\n";
+    let b = "name b\ncategory Package\nrevision 0\nrunfiles size=1\n b.sty\n\n";
+    let wanted = format!(in rt.alloc(); "{a}{b}")?;
+    let fallen = format!(in rt.alloc(); "{b}{a}")?;
+    let spaced = format!(in rt.alloc(); "\n{a}# more\n\n\n{b}")?;
+    let open = wanted.as_bytes().strip_suffix(b"\n").unwrap_or(b"");
+    for text in [
+        wanted.as_bytes(),
+        fallen.as_bytes(),
+        spaced.as_bytes(),
+        open,
+    ] {
+        let again = canonical(rt.alloc(), text)?;
+        assert_eq!(rt; again.as_slice(), wanted.as_bytes());
+    }
+    let twice = format!(in rt.alloc(); "{a}{a}")?;
+    let bad = DbError::BadDatabase {
+        line: 5,
+        kind: LineKind::Repeated,
+    };
+    assert_eq!(rt; canonical(rt.alloc(), twice.as_bytes()), Err(bad));
+    Ok(())
+}
+
 #[test]
 fn entries_are_written_in_the_order_of_their_names(rt: HostRuntime) -> Result<(), Fail> {
     let text = b"\n\n# first\n\nname b\n\n# alone\n\n\nname a\n# within\nrevision 1".as_slice();

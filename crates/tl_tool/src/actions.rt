@@ -11,14 +11,16 @@ ghost use Rattle.tl_tool.specs.Run.{over_database, dump_run, option_run};
 ghost use Rattle.tl_tool.specs.Status.{IsFault};
 
 use crate::acted::Acted;
+use crate::ending::Ending;
 use crate::load::{give_up_at_rest, load};
-use crate::say::say;
+use crate::refusal::{bad_database, too_large};
+use crate::say::{refuse, say};
 use crate::setting::set_or_show;
 use std::alloc::Global;
-use tl_db::write_db;
 use tl_host::Host;
 use tl_journal::Clean;
 use tl_path::Name;
+use tl_tree::{TreeError, canonical_database};
 
 /// Carries `dump-tlpdb` out: says the text of the database in its canonical form, or refuses it at its first fault.
 pub fn dump_tlpdb<H: Host>(alloc: Global, journal: Clean<H>) -> Acted<H>
@@ -28,14 +30,21 @@ pub fn dump_tlpdb<H: Host>(alloc: Global, journal: Clean<H>) -> Acted<H>
     ensures later { journal.faults ≤ (left_by H.seen result.state).faults }
     ensures cause { IsFault result.ending → Rose journal.faults (left_by H.seen result.state).faults }
 {
+    let mut journal = journal;
     journal.stands();
-    let tree = match load(alloc, journal) {
-        Ok(tree) => tree,
-        Err(acted) => return acted,
-    };
-    match write_db(alloc, tree.db()) {
-        Ok(text) => say(&text, tree.release()),
-        Err(_) => give_up_at_rest(tree.release()),
+    match canonical_database(alloc, &mut journal) {
+        Ok(text) => say(&text, journal),
+        Err(TreeError::HostFault) => Acted {
+            ending: Ending::HostFault,
+            state: Err(journal.into_host()),
+        },
+        Err(TreeError::NoMemory) => give_up_at_rest(journal),
+        Err(TreeError::BadDatabase { line, kind }) => {
+            refuse(alloc, bad_database(line, kind), journal)
+        }
+        Err(TreeError::TooLarge { what, limit }) => {
+            refuse(alloc, too_large(what, limit), journal)
+        }
     }
 }
 

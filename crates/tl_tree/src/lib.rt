@@ -18,4 +18,5 @@ mod tree;
 
 pub use change::{Change, Part, PartList};
 pub use error::{StepError, TreeError};
+pub use load::canonical_database;
 pub use tree::Tree;

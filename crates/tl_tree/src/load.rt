@@ -1,16 +1,18 @@
 //! The reading of a tree's database.
-ghost use Rattle.std.specs.Prelude.{◌≡◌, ◌≤◌, IfOk, IfErr, MatchResult};
+ghost use Rattle.std.specs.Prelude.{◌≡◌, ◌≤◌, ℕ, List, IfOk, IfErr, MatchResult};
+ghost use Rattle.tl_model.specs.Acks.{IsPlain};
 ghost use Rattle.tl_model.specs.Causes.{Rose};
 ghost use Rattle.tl_model.specs.Seen.{Told, Quiet};
 ghost use Rattle.tl_journal_text.specs.Stand.{tree_of};
-ghost use Rattle.tl_db.specs.Reading.{IsRead};
+ghost use Rattle.tl_db.specs.Reading.{IsRead, IsDbError};
+ghost use Rattle.tl_db.specs.Canonical.{IsRewritten};
 ghost use Rattle.tl_tree.specs.Planted.{database_text};
 ghost use Rattle.tl_tree.specs.Answers.{IsTreeError};
 ghost use Rattle.tl_tree.specs.declared.error.TreeError.TheVariants.{HostFault as LoadFault};
 
 use crate::error::TreeError;
 use std::alloc::Global;
-use tl_db::{Db, DbError, What, read_db};
+use tl_db::{Db, DbError, What, canonical_text, read_db};
 use tl_host::{FileError, Host};
 use tl_journal::Clean;
 use tl_path::PathRef;
@@ -38,16 +40,14 @@ fn read_text<H: Host>(alloc: Global, journal: &mut Clean<H>) -> Result<Vec<u8>, 
     }
 }
 
-// The entries of the text of a database.
-fn entries_of(alloc: Global, text: &[u8]) -> Result<Db, TreeError>
-    ensures entries { MatchResult result (IsRead text.now) (IsTreeError text.now) }
-    ensures quiet { IfErr result (λ error. error ≡ LoadFault → ⊥) }
+fn tree_error(error: DbError) -> TreeError
+    ensures error { (text : List ℕ) → IsDbError text error → IsTreeError text result }
+    ensures quiet { result ≡ LoadFault → ⊥ }
 {
-    match read_db(alloc, text) {
-        Ok(db) => Ok(db),
-        Err(DbError::BadDatabase { line, kind }) => Err(TreeError::BadDatabase { line, kind }),
-        Err(DbError::TooLarge { what, limit }) => Err(TreeError::TooLarge { what, limit }),
-        Err(DbError::NoMemory) => Err(TreeError::NoMemory),
+    match error {
+        DbError::BadDatabase { line, kind } => TreeError::BadDatabase { line, kind },
+        DbError::TooLarge { what, limit } => TreeError::TooLarge { what, limit },
+        DbError::NoMemory => TreeError::NoMemory,
     }
 }
 
@@ -63,5 +63,32 @@ pub fn read_entries<H: Host>(alloc: Global, journal: &mut Clean<H>) -> Result<Db
         Ok(text) => text,
         Err(error) => return Err(error),
     };
-    entries_of(alloc, text.as_slice())
+    match read_db(alloc, text.as_slice()) {
+        Ok(db) => Ok(db),
+        Err(error) => Err(tree_error(error)),
+    }
+}
+
+/// The text of the database of a volume at rest in its canonical form, which is plain; no bytes where it is absent. Refused as
+/// `Tree::load` refuses it. It reads the database alone, and changes nothing. A database that is in this form already takes little
+/// more memory than its text.
+pub fn canonical_database<H: Host>(
+    alloc: Global,
+    journal: &mut Clean<H>,
+) -> Result<Vec<u8>, TreeError>
+    ensures text { Told H.tells (IfOk result (λ text. IsRewritten (database_text (tree_of journal.old.present.held)) text.items)) }
+    ensures plain { IfOk result (λ text. IsPlain text.items) }
+    ensures error { Told H.tells (IfErr result (IsTreeError (database_text (tree_of journal.old.present.held)))) }
+    ensures same { Told H.tells (Quiet journal.old journal.new) }
+    ensures later { journal.old.faults ≤ journal.new.faults }
+    ensures cause { IfErr result (λ error. error ≡ LoadFault → Rose journal.old.faults journal.new.faults) }
+{
+    let text = match read_text(alloc, journal) {
+        Ok(text) => text,
+        Err(error) => return Err(error),
+    };
+    match canonical_text(alloc, text) {
+        Ok(text) => Ok(text),
+        Err(error) => Err(tree_error(error)),
+    }
 }
