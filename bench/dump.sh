@@ -1,7 +1,8 @@
 #!/bin/sh
-# Measures `dump-tlpdb` over databases of 2 and 20 MB against a plain Rust program of the same steps (dump.rs), as ratios of the
-# medians of five runs each, taken in turn; then over 250,000 files of one entry and over 65,536 entries, from the last to the first
-# against in order. Where a folder with the Perl modules of TeX Live's own manager is named, as
+# Measures `dump-tlpdb` over databases of 2 and 20 MB against a plain Rust program (dump.rs) that reads them into values and writes
+# these, as ratios of the medians of five runs each, taken in turn: as the program writes them, which it tells entry by entry, and with
+# an empty line in front, so that it takes the same steps as the plain one; then over 250,000 files of one entry and over 65,536
+# entries, from the last to the first against in order. Where a folder with the Perl modules of TeX Live's own manager is named, as
 # TLPKG=/usr/share/texlive/tlpkg, it reads and writes the 20 MB in turn too. It wants the proved program, rustc, python3 and GNU time;
 # without one of them it does nothing.
 cd "$(dirname "$0")" || exit 1
@@ -18,7 +19,7 @@ for shape in 2 20 one many "one reversed" "many reversed"; do
     python3 database.py $shape >"$folder/$shape/tlpkg/texlive.tlpdb"
 done
 python3 - "$program" "$folder" "$TLPKG" <<'PYTHON'
-import statistics, subprocess, sys, time
+import os, statistics, subprocess, sys, time
 program, folder, modules = sys.argv[1:]
 MANAGER = ["perl", "-I" + modules, "-MTeXLive::TLPDB", "-MTeXLive::TLUtils", "-e", "TeXLive::TLPDB->new(root => shift)->writeout"]
 
@@ -47,18 +48,27 @@ def medians(commands, check):
     return {name: statistics.median(each) for name, each in times.items()}, memory
 
 
+def put_line_in_front(size):
+    other = f"{folder}/{size} other"
+    os.makedirs(other + "/tlpkg")
+    with open(f"{folder}/{size}/tlpkg/texlive.tlpdb", "rb") as text, open(other + "/tlpkg/texlive.tlpdb", "wb") as copy:
+        copy.write(b"\n" + text.read())
+
+
 taken = {}
 for size in ("2", "20"):
     text = f"{folder}/{size}/tlpkg/texlive.tlpdb"
-    commands = {"texlive": dump(size), "plain": [folder + "/plain", f"{folder}/{size}"]}
+    put_line_in_front(size)
+    commands = {"texlive": dump(size), "other": dump(f"{size} other"), "plain": [folder + "/plain", f"{folder}/{size}"]}
     if modules and size == "20":
         commands["manager"] = MANAGER + [f"{folder}/{size}"]
-    times, memory = medians(commands, {"texlive": text, "plain": text})
+    times, memory = medians(commands, {"texlive": text, "other": text, "plain": text})
     taken[size] = times["texlive"]
     length = len(open(text, "rb").read())
-    print(f"{size} MB: texlive / plain = {times['texlive'] / times['plain']:.2f} in time"
-          f" ({times['texlive'] * 1000:.0f} ms, {times['plain'] * 1000:.0f} ms),"
-          f" memory / text = {memory['texlive'] * 1024 / length:.1f} (plain {memory['plain'] * 1024 / length:.1f})")
+    for name, what in (("texlive", "as it is written"), ("other", "behind an empty line")):
+        print(f"{size} MB, {what}: texlive / plain = {times[name] / times['plain']:.2f} in time"
+              f" ({times[name] * 1000:.0f} ms, {times['plain'] * 1000:.0f} ms),"
+              f" memory / text = {memory[name] * 1024 / length:.1f} (plain {memory['plain'] * 1024 / length:.1f})")
     if "manager" in times:
         print(f"{size} MB: TeX Live's own manager / texlive = {times['manager'] / times['texlive']:.1f} in time"
               f" ({times['manager'] * 1000:.0f} ms), {memory['manager'] / memory['texlive']:.1f} in memory")
