@@ -19,7 +19,7 @@ pub use components::Components;
 pub use error::{NameError, PathError, PlatformsError, TagError};
 pub use fault::{PathFault, PathKind};
 pub use kinds::{Category, Check};
-pub use name::Name;
+pub use name::{Name, is_name};
 pub use path::Path;
 pub use path_ref::PathRef;
 pub use platform::{Platform, is_platform};

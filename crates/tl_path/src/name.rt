@@ -144,7 +144,8 @@ impl fmt::Debug for Name {
     }
 }
 
-fn is_name(text: &[u8]) -> bool
+/// Whether bytes are a name. Takes no memory.
+pub fn is_name(text: &[u8]) -> bool
     ensures { result ≡ is_name text.now }
 {
     !text.is_empty()

@@ -1,0 +1,15 @@
+use Rattle.std.proofs.Common.{List, ℕ, [], ◌∷◌, ◌++◌, take, drop, sym, ap, ◌∙◌}
+use Rattle.std.specs.Ordering.{is_lt}
+use Rattle.std.proofs.lemmas.List.{take-append-drop}
+use Rattle.std.proofs.lemmas.Slice.Eq.{bytes_eq-Decides}
+use Rattle.tl_db.proofs.CanonicalLemmas.{entry-behind}
+use Rattle.tl_db.proofs.canonical.entry_behind.Goals as goal
+
+pub returns-in-Less : goal.returns-in-Less
+returns-in-Less c =
+    let entry = c.in_ok-name.field-0 in
+    let mid = entry.rest.now in
+    let rest = c.in_ok-rest.rest.now in
+    let parts = c.in_ok-rest.ensures.cases in
+    let cut = sym (take-append-drop 1 mid) ∙ ap (λ (l : List ℕ). l ++ drop 1 mid) ((bytes_eq-Decides (take 1 mid) (10 ∷ [])).0 parts.0) ∙ ap (λ (l : List ℕ). (10 ∷ []) ++ l) (sym parts.1) in
+    entry-behind c.args.last.now entry.name.now c.args.text.now mid rest c.in_ok-name.ensures cut (ap is_lt (sym c.cmp.ensures ∙ c.in-Less.is))

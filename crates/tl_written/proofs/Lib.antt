@@ -1,0 +1,10 @@
+pub mod StandLemmas
+pub mod PathLemmas
+pub mod FactLemmas
+pub mod BoxLemmas
+pub mod LineLemmas
+pub mod TextLemmas
+pub mod FirstLemmas
+pub mod BinLemmas
+pub mod DocLemmas
+pub mod EntryLemmas

@@ -1,0 +1,19 @@
+//! Entries of the database as they are written: a text is told to be one without its values being made.
+//!
+//! Each function finds a piece of an entry's text at the front of a text, and gives what stands behind it. That the piece is the
+//! written text of some value is what it promises; that it finds each such piece, it doesn't.
+#![tactic(auto)]
+
+mod bins;
+mod boxes;
+mod docs;
+mod entry;
+mod facts;
+mod first;
+mod lines;
+mod middle;
+mod paths;
+#[cfg(test)]
+mod tests;
+
+pub use entry::{Written, written_entry};
