@@ -1,18 +1,25 @@
 -- The lines of containers: a number's digits, and a digest's.
-use Rattle.std.proofs.Common.{◌≡◌, ◌⊎◌, ℕ, zero, suc, ◌+◌, ◌-◌, ◌*◌, ◌/◌, ◌%◌, ◌==◌, ◌^◌, ◌<◌, ◌≤◌, Bool, true, false, ◌&&◌, ◌||◌, List, [], ◌∷◌, ◌++◌, length, slice_index, fold, Some, None, inl, inr, refl, sym, ◌∙◌, ap, arith}
+use Rattle.std.proofs.Common.{◌≡◌, ◌⊎◌, ℕ, zero, suc, ◌+◌, ◌-◌, ◌*◌, ◌/◌, ◌%◌, ◌==◌, ◌^◌, ◌<◌, ◌≤◌, Bool, true, false, not, ◌&&◌, ◌||◌, List, [], ◌∷◌, ◌++◌, length, slice_index, fold, Option, Some, None, inl, inr, refl, sym, ◌∙◌, ap, arith, append_assoc}
 use Rattle.std.specs.Prelude.{nat_le}
-use Rattle.std.proofs.lemmas.Bool.{and_parts, cases_lt, eqb-true, leb-true, true≢false}
+use Rattle.std.specs.Borrow.{Bor}
+use Rattle.std.proofs.lemmas.Bool.{and_from, and_parts, cases_lt, eqb-true, leb-true, true≢false}
 use Rattle.std.proofs.lemmas.List.Folds.{fold_stays}
 use Rattle.tl_model.specs.Decimal.{decimal_text}
 use Rattle.tl_model.specs.Acks.{plain-nil, plain-append}
 use Rattle.hex.specs.Hex.{IsBytes, encode_with, encode_lower, lower_digits}
+use Rattle.tl_entry.specs.declared.object.Container.{Container}
 use Rattle.tl_object.specs.Plain.{is_key}
-use Rattle.tl_object.specs.Formed.{IsFormedSize, IsFormedDigest, IsFormedBox}
+use Rattle.hex.proofs.HexLemmas.{length-encode_with}
+use Rattle.tl_object.specs.Formed.{IsDigest, IsFormedSize, IsFormedDigest, IsFormedBox}
 use Rattle.tl_object.specs.Writing.{key_line, size_line, digest_line, container_lines}
 use Rattle.tl_object.proofs.PlainLemmas.{plain_key_line, line_of_number, line_of_digest}
 use Rattle.tl_written.specs.Stands.{Stands}
+use Rattle.tl_written.specs.Found.{LacksEach, Finds, is_apart}
 use Rattle.tl_written.specs.Pieces.{is_lower_digit, is_digest_text}
 use Rattle.tl_written.proofs.StandLemmas.{behind-both}
+use Rattle.tl_written.proofs.TextLemmas.{IsOptional}
+use Rattle.tl_written.proofs.FindLemmas.{skip}
+use Rattle.tl_written.proofs.BeginLemmas.{digest_line-begins}
 
 -- an absent size has no line
 pub no_size : (key text : List ℕ) → Stands (size_line key) IsFormedSize text text
@@ -138,6 +145,43 @@ digest_stands key digits text rest begins same is =
       is = (read.count, read.small);
     }
 
+-- ---- a size and a digest that are found
+
+-- the line of a size is that of a key
+pub size_optional : (key : List ℕ) → IsOptional key (size_line key) (λ n. n < 2 ^ 64) decimal_text
+size_optional key = record { none = refl; some = λ n. refl; line = line_of_number }
+
+-- no number is found where one is there to be found
+pub undone : (n : ℕ) → None ≡ Some n → ⊥
+undone n same = cc
+
+-- the line of a digest is that of a key
+pub digest_optional : (key : List ℕ) → IsOptional key (digest_line key) IsDigest encode_lower
+digest_optional key = record { none = refl; some = λ digest. refl; line = λ digest is. line_of_digest digest }
+
+-- each digit of the table is one of a number in base 16
+lower_at : (k : ℕ) → k < 16 → is_lower_digit (slice_index lower_digits k) ≡ true
+lower_at k lt = below_at (λ i. is_lower_digit (slice_index lower_digits i)) 16 k refl lt
+
+-- each digit of some bytes is one of a number in base 16
+each_lower : (bytes : List ℕ) → IsBytes bytes → fold (λ all byte. all && is_lower_digit byte) true (encode_lower bytes) ≡ true
+unfolding encode_with
+each_lower [] small = refl
+each_lower (b ∷ bytes) small =
+    let here : b < 256 = small 0 in
+    let both = and_from (is_lower_digit (slice_index lower_digits (b / 16))) (is_lower_digit (slice_index lower_digits (b % 16))) (lower_at (b / 16) (omega arith)) (lower_at (b % 16) (omega arith)) in
+    ap (λ t. fold (λ all byte. all && is_lower_digit byte) t (encode_lower bytes)) both ∙ each_lower bytes (λ i. small (suc i))
+
+-- the digits of 64 bytes pass the test
+digest_passes : (digest : List ℕ) → IsDigest digest → is_digest_text (encode_lower digest) ≡ true
+digest_passes digest is =
+    let digits : length (encode_lower digest) ≡ 128 = omega (arith, length-encode_with lower_digits digest, is.0) in
+    and_from (length (encode_lower digest) == 128) (fold (λ all byte. all && is_lower_digit byte) true (encode_lower digest)) (ap (λ n. n == 128) digits) (each_lower digest is.1)
+
+-- what fails the test is no digest
+pub undigested : (digits digest : List ℕ) → is_digest_text digits ≡ false → IsDigest digest → digits ≡ encode_lower digest → ⊥
+undigested digits digest fails is same = true≢false (sym (digest_passes digest is) ∙ ap is_digest_text (sym same) ∙ fails)
+
 -- the lines of a container
 pub box_stands : (size_key digest_key text mid rest : List ℕ) → Stands (size_line size_key) IsFormedSize text mid → Stands (digest_line digest_key) IsFormedDigest mid rest
     → Stands (container_lines size_key digest_key) IsFormedBox text rest
@@ -147,3 +191,46 @@ box_stands size_key digest_key text mid rest one two = record {
   plain = plain-append (size_line size_key one.value) (digest_line digest_key two.value) one.plain two.plain;
   is = record { size = one.is; digest = two.is };
 }
+
+-- a test may be weakened at its second part
+or_more : (a b c : Bool) → (b ≡ true → c ≡ true) → (a || b) ≡ true → (a || c) ≡ true
+or_more true b c more is = refl
+or_more false b c more is = more is
+
+-- words that are apart stay so with more behind them
+apart_more : (word other a b : List ℕ) → is_apart word other ≡ true → is_apart (word ++ a) (other ++ b) ≡ true
+apart_more [] other a b is = absurd (cc)
+apart_more (x ∷ word) [] a b is = absurd (cc)
+apart_more (x ∷ word) (y ∷ other) a b is = or_more (not (x == y)) (is_apart word other) (is_apart (word ++ a) (other ++ b)) (apart_more word other a b) is
+
+-- the lines of a container, cut behind the size
+pub record BoxCut (size_key digest_key text rest : List ℕ) (box : Container) : Type 0 where
+  pub same : text ≡ size_line size_key box.size ++ (digest_line digest_key box.digest ++ rest)
+  pub lacks : LacksEach (digest_line digest_key box.digest ++ rest) ((size_key ++ 32 ∷ []) ∷ [])
+
+-- behind the size stands what doesn't begin with the size's key
+pub box_cut : (size_key digest_key text rest : List ℕ) (box : Container) → is_apart digest_key size_key ≡ true → LacksEach rest ((size_key ++ 32 ∷ []) ∷ (digest_key ++ 32 ∷ []) ∷ []) → text ≡ container_lines size_key digest_key box ++ rest
+    → BoxCut size_key digest_key text rest box
+box_cut size_key digest_key text rest box apart lacks same =
+    let spaced = apart_more digest_key size_key (32 ∷ []) (32 ∷ []) apart in
+    record {
+      same = same ∙ append_assoc (size_line size_key box.size) (digest_line digest_key box.digest) rest;
+      lacks = skip (digest_key ++ 32 ∷ []) (digest_line digest_key box.digest) rest ((size_key ++ 32 ∷ []) ∷ []) (digest_line-begins digest_key box.digest) (and_from _ true spaced refl) (lacks.0, tt);
+    }
+
+-- where no size is found in front of what lacks its key, no container is written
+pub box-fails : (size_key digest_key text : List ℕ) → is_apart digest_key size_key ≡ true
+    → ((size : Option ℕ) (rest : List ℕ) → IsFormedSize size → LacksEach rest ((size_key ++ 32 ∷ []) ∷ []) → text ≡ size_line size_key size ++ rest → ⊥)
+    → (box : Container) (rest : List ℕ) → IsFormedBox box → LacksEach rest ((size_key ++ 32 ∷ []) ∷ (digest_key ++ 32 ∷ []) ∷ []) → text ≡ container_lines size_key digest_key box ++ rest → ⊥
+box-fails size_key digest_key text apart none box rest is lacks same =
+    let cut = box_cut size_key digest_key text rest box apart lacks same in
+    none box.size (digest_line digest_key box.digest ++ rest) is.size cut.lacks cut.same
+
+-- the size and then the digest of a container are found
+pub box-finds : (size_key digest_key text mid : List ℕ) (found : Option (Bor (List ℕ))) → is_apart digest_key size_key ≡ true
+    → ((size : Option ℕ) (rest : List ℕ) → IsFormedSize size → LacksEach rest ((size_key ++ 32 ∷ []) ∷ []) → text ≡ size_line size_key size ++ rest → mid ≡ rest)
+    → Finds (digest_line digest_key) IsFormedDigest ((digest_key ++ 32 ∷ []) ∷ []) mid found
+    → Finds (container_lines size_key digest_key) IsFormedBox ((size_key ++ 32 ∷ []) ∷ (digest_key ++ 32 ∷ []) ∷ []) text found
+box-finds size_key digest_key text mid found apart one two box rest is lacks same =
+    let cut = box_cut size_key digest_key text rest box apart lacks same in
+    two box.digest rest is.digest lacks.1 (one box.size (digest_line digest_key box.digest ++ rest) is.size cut.lacks cut.same)

@@ -108,6 +108,9 @@ entry-stands name text a b c rest first middle files facts =
     let z : Object = files.value in
     let fs : List FactEntry = facts.value in
     let whole : Object = joined x y z fs in
+    let one_formed = front_formed x y z fs first.is.0 in
+    let two_formed = texts_formed x y z fs middle.is in
+    let three_formed = files_formed x y z fs files.is in
     let one : Front (first_lines whole) text a = first_joined x y z fs text a (record { same = first.same; plain = first.plain }) in
     let two : Front (middle_lines whole) a b = middle_joined x y z fs a b (record { same = middle.same; plain = middle.plain }) in
     let three : Front (file_lines whole) b c = files_joined x y z fs b c (record { same = files.same; plain = files.plain }) in
@@ -117,5 +120,11 @@ entry-stands name text a b c rest first middle files facts =
       value = whole;
       same = front.same;
       plain = front.plain;
-      is = (reads-again whole (front_formed x y z fs first.is.0) (texts_formed x y z fs middle.is) (files_formed x y z fs files.is) facts.is, first.is.1);
+      is = (
+        record {
+          again = reads-again whole one_formed two_formed three_formed facts.is;
+          formed = record { front = one_formed; texts = two_formed; files = three_formed; facts = facts.is };
+        },
+        first.is.1,
+      );
     }

@@ -8,3 +8,7 @@ pub mod FirstLemmas
 pub mod BinLemmas
 pub mod DocLemmas
 pub mod EntryLemmas
+pub mod FindLemmas
+pub mod LeftLemmas
+pub mod BeginLemmas
+pub mod EntryFindLemmas

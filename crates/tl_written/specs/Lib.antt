@@ -1,3 +1,4 @@
 pub mod Stands
 pub mod Rises
 pub mod Pieces
+pub mod Found

@@ -1,5 +1,5 @@
 -- The pieces of an entry's text.
-use Rattle.std.specs.Prelude.{◌≡◌, ℕ, ◌==◌, ◌&&◌, ◌||◌, Bool, true, false, nat_le, List, [], ◌++◌, length, fold, Option, None, IfSome}
+use Rattle.std.specs.Prelude.{◌≡◌, ℕ, ◌==◌, ◌&&◌, ◌||◌, ◌⊎◌, Bool, true, false, nat_le, List, [], ◌∷◌, ◌++◌, codes, length, fold, Option, None, IfSome, All}
 use Rattle.tl_path.specs.declared.kinds.Category.{Category}
 use Rattle.tl_path.specs.declared.kinds.Category.TheVariants.{Package}
 use Rattle.tl_path.specs.Path.{IsPath}
@@ -90,6 +90,36 @@ FilesStand text rest = Stands file_lines HasFormedFiles text rest
 abbrev pub FactsStand : List ℕ → List ℕ → Type 0
 FactsStand text rest = AllStand fact_line IsFormedFact text rest
 
+-- the parts of an entry have their forms
+pub record IsFormed (o : Object) : Type 0 where
+  pub front : HasFormedFront o
+  pub texts : HasFormedTexts o
+  pub files : HasFormedFiles o
+  pub facts : All IsFormedFact o.catalogue_facts
+
+-- an entry whose parts have their forms, and which reads as itself again
+pub record IsEntry (o : Object) : Type 0 where
+  pub again : ReadsAgain o
+  pub formed : IsFormed o
+
 -- an entry with this name stands at the front of a text as it is written, and reads as itself again
 abbrev pub EntryStands : List ℕ → List ℕ → List ℕ → Type 0
-EntryStands name text rest = Stands object_text (λ (o : Object). ReadsAgain o × (o.name ≡ name)) text rest
+EntryStands name text rest = OneStands (λ (o : Object). o.name) object_text IsEntry name text rest
+
+-- a text is empty or begins with a space
+abbrev pub BeginsAtSpace : List ℕ → Type 0
+BeginsAtSpace text = (text ≡ []) ⊎ ((more : List ℕ) × (text ≡ 32 ∷ more))
+
+-- how the lines behind the first ones don't begin
+abbrev pub first_words : List (List ℕ)
+first_words = codes "catalogue " ∷ codes "shortdesc " ∷ codes "relocated 1\n" ∷ []
+
+-- how the lines behind an entry's texts don't begin
+abbrev pub middle_words : List (List ℕ)
+middle_words = codes "longdesc " ∷ codes "depend " ∷ codes "execute " ∷ codes "postaction " ∷ []
+
+-- how the lines behind an entry's containers and files don't begin
+abbrev pub file_words : List (List ℕ)
+file_words =
+    codes " " ∷ codes "containersize " ∷ codes "containerchecksum " ∷ codes "doccontainersize " ∷ codes "doccontainerchecksum " ∷ codes "docfiles size="
+    ∷ codes "srccontainersize " ∷ codes "srccontainerchecksum " ∷ codes "srcfiles size=" ∷ codes "runfiles size=" ∷ codes "binfiles arch=" ∷ []

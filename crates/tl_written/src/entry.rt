@@ -1,6 +1,10 @@
 // A whole entry.
-ghost use Rattle.std.specs.Prelude.{IfSome};
-ghost use Rattle.tl_written.specs.Pieces.{FilesStand, EntryStands};
+ghost use Rattle.std.specs.Prelude.{◌≡◌, ◌++◌, ◌∷◌, ℕ, List, IfSome, IsSomeAnd};
+ghost use Rattle.tl_entry.specs.declared.object.Object.{Object};
+ghost use Rattle.tl_object.specs.Formed.{HasFormedFiles};
+ghost use Rattle.tl_object.specs.Writing.{file_lines, object_text};
+ghost use Rattle.tl_written.specs.Found.{Finds};
+ghost use Rattle.tl_written.specs.Pieces.{FilesStand, IsFormed, EntryStands, file_words};
 
 use crate::bins::bins_behind;
 use crate::boxes::box_behind;
@@ -19,7 +23,8 @@ pub struct Written<'a> {
 }
 
 fn all_files_behind(text: &[u8]) -> Option<&[u8]>
-    ensures { IfSome result (λ rest. FilesStand text.now rest.now) }
+    ensures stand { IfSome result (λ rest. FilesStand text.now rest.now) }
+    ensures finds { Finds file_lines HasFormedFiles file_words text.now result }
 {
     let rest = box_behind(text, b"containersize", b"containerchecksum")?;
     let rest = box_behind(rest, b"doccontainersize", b"doccontainerchecksum")?;
@@ -30,10 +35,12 @@ fn all_files_behind(text: &[u8]) -> Option<&[u8]>
     bins_behind(rest)
 }
 
-/// The entry at the front of a text, where its lines stand there as `tl_object::write_object` writes it; it reads as itself again.
-/// `None` says nothing. Takes no memory, and looks at each byte a few times.
+/// The entry at the front of a text, where its lines stand there as `tl_object::write_object` writes it; it reads as itself again. Each
+/// entry that has an empty line behind it is found: `None` comes only where none stands there. Takes no memory, and looks at each byte a
+/// few times.
 pub fn written_entry(text: &[u8]) -> Option<Written<'_>>
-    ensures { IfSome result (λ entry. EntryStands entry.name.now text.now entry.rest.now) }
+    ensures stands { IfSome result (λ entry. EntryStands entry.name.now text.now entry.rest.now) }
+    ensures finds { (o : Object) (rest : List ℕ) → IsFormed o → text.now ≡ object_text o ++ 10 ∷ rest → IsSomeAnd result (λ entry. (entry.name.now ≡ o.name) × (entry.rest.now ≡ 10 ∷ rest)) }
 {
     let (name, rest) = first_behind(text)?;
     let rest = middle_behind(rest)?;

@@ -1,8 +1,11 @@
 // The first lines of an entry.
-ghost use Rattle.std.specs.Prelude.{◌≡◌, ◌<◌, ◌^◌, ⊤, codes, true, IfSome};
-ghost use Rattle.tl_object.specs.Writing.{key_line, number_line, category_word, relocated_line};
+ghost use Rattle.std.specs.Prelude.{◌≡◌, ◌++◌, ◌<◌, ◌^◌, ℕ, ⊤, Bool, codes, true, List, [], IfSome};
+ghost use Rattle.tl_object.specs.Formed.{HasFormedFront};
+ghost use Rattle.tl_object.specs.Writing.{key_line, number_line, category_word, relocated_line, first_lines};
 ghost use Rattle.tl_written.specs.Stands.{Stands};
-ghost use Rattle.tl_written.specs.Pieces.{IsCategory, FirstStand};
+ghost use Rattle.tl_written.specs.Found.{Lacks, Finds, FindsOne};
+ghost use Rattle.tl_written.specs.Pieces.{IsCategory, FirstStand, first_words};
+ghost use Rattle.tl_entry.specs.declared.object.Object.{Object};
 
 use crate::lines::{behind, keyed, number_of};
 use crate::middle::text_behind;
@@ -11,7 +14,8 @@ use tl_path::is_name;
 const REVISIONS: u64 = 4_294_967_296;
 
 fn is_category(word: &[u8]) -> bool
-    ensures { (result ≡ true) → IsCategory word.now }
+    ensures is { (result ≡ true) → IsCategory word.now }
+    ensures all { IsCategory word.now → result ≡ true }
 {
     word == b"Package".as_slice()
         || word == b"TLCore".as_slice()
@@ -21,14 +25,16 @@ fn is_category(word: &[u8]) -> bool
 }
 
 fn category_behind(text: &[u8]) -> Option<&[u8]>
-    ensures { IfSome result (λ rest. Stands (λ c. key_line (codes "category") (category_word c)) (λ _. ⊤) text.now rest.now) }
+    ensures stands { IfSome result (λ rest. Stands (λ c. key_line (codes "category") (category_word c)) (λ _. ⊤) text.now rest.now) }
+    ensures finds { Finds (λ c. key_line (codes "category") (category_word c)) (λ _. ⊤) [] text.now result }
 {
     let (word, rest) = keyed(text, b"category")?;
     if is_category(word) { Some(rest) } else { None }
 }
 
 fn revision_behind(text: &[u8]) -> Option<&[u8]>
-    ensures { IfSome result (λ rest. Stands (number_line (codes "revision")) (λ n. n < 2 ^ 32) text.now rest.now) }
+    ensures stands { IfSome result (λ rest. Stands (number_line (codes "revision")) (λ n. n < 2 ^ 32) text.now rest.now) }
+    ensures finds { Finds (number_line (codes "revision")) (λ n. n < 2 ^ 32) [] text.now result }
 {
     let (digits, rest) = keyed(text, b"revision")?;
     if number_of(digits)? < REVISIONS {
@@ -39,7 +45,8 @@ fn revision_behind(text: &[u8]) -> Option<&[u8]>
 }
 
 fn relocated_behind(text: &[u8]) -> &[u8]
-    ensures { Stands relocated_line (λ _. ⊤) text.now result.now }
+    ensures stands { Stands relocated_line (λ _. ⊤) text.now result.now }
+    ensures finds { (is_relocated : Bool) (rest : List ℕ) → Lacks rest (codes "relocated 1\n") → text.now ≡ relocated_line is_relocated ++ rest → result.now ≡ rest }
 {
     match behind(text, b"relocated 1\n") {
         Some(rest) => rest,
@@ -49,7 +56,8 @@ fn relocated_behind(text: &[u8]) -> &[u8]
 
 /// The name of an entry, and what stands behind its first lines.
 pub(crate) fn first_behind(text: &[u8]) -> Option<(&[u8], &[u8])>
-    ensures { IfSome result (λ parts. FirstStand parts.0.now text.now parts.1.now) }
+    ensures stands { IfSome result (λ parts. FirstStand parts.0.now text.now parts.1.now) }
+    ensures finds { FindsOne (λ (o : Object). o.name) first_lines HasFormedFront first_words text.now result }
 {
     let (name, rest) = keyed(text, b"name")?;
     if !is_name(name) {
