@@ -55,3 +55,54 @@ static GOOD: [&[u8]; 50] = [
 pub(crate) fn good_lines() -> &'static [&'static [u8]] {
     &GOOD
 }
+
+// Its canonical form.
+static CANONICAL: [&[u8]; 43] = [
+    b"name bar",
+    b"category Package",
+    b"revision 0",
+    b"longdesc ",
+    b"runfiles size=5",
+    b" texmf-dist/tex/bar/bar.cfg",
+    b" texmf-dist/tex/bar/bar.sty",
+    b"",
+    b"name foo.b",
+    b"category TLCore",
+    b"revision 60000",
+    b"catalogue foo-ctan",
+    b"shortdesc An example \xc3\xa9",
+    b"relocated 1",
+    b"longdesc First.",
+    b"longdesc Second.",
+    b"depend bar",
+    b"depend foo.ARCH",
+    b"execute addMap foo.map",
+    b"postaction shortcut",
+    b"containersize 2004",
+    b"containerchecksum ddaf35a193617abacc417349ae20413112e6fa4e89a97ea20a9eeee64b55d39a2192992a274fc1a836ba3c23a3feebbd454d4423643ce80e2a9ac94fa54ca49f",
+    b"doccontainersize 18446744073709551615",
+    b"doccontainerchecksum cf83e1357eefb8bdf1542850d66d8007d620e4050b5715dc83f4a921d36ce9ce47d0d13c5d85f2b0ff8318d2877eec2f63b931bd47417a81a538327af927da3e",
+    b"docfiles size=94",
+    b" texmf-dist/doc/foo/CHANGES language=\"de\"",
+    b" texmf-dist/doc/foo/LICENSE",
+    b" texmf-dist/doc/foo/README details=\"Read me\"",
+    b" texmf-dist/doc/foo/foo.pdf details=\"Package documentation\" language=\"en\"",
+    b"srccontainersize 0",
+    b"srccontainerchecksum ddaf35a193617abacc417349ae20413112e6fa4e89a97ea20a9eeee64b55d39a2192992a274fc1a836ba3c23a3feebbd454d4423643ce80e2a9ac94fa54ca49f",
+    b"srcfiles size=3",
+    b"runfiles size=0",
+    b" texmf-dist/tex/foo/foo.sty",
+    b"binfiles arch=a-linux size=2",
+    b" bin/a-linux/bar",
+    b" bin/a-linux/foo",
+    b"binfiles arch=windows size=1",
+    b" bin/windows/foo.exe",
+    b"catalogue-license lppl  1.3",
+    b"catalogue-ctan /macros/foo",
+    b"catalogue-ctan twice",
+    b"",
+];
+
+pub(crate) fn canonical_lines() -> &'static [&'static [u8]] {
+    &CANONICAL
+}

@@ -1,3 +1,4 @@
+use crate::good::good_lines;
 use crate::tests::{agree, with_line};
 use std::alloc::{AllocError, Global};
 use std::process::Abort;
@@ -32,7 +33,8 @@ const PLACES: [usize; 4] = [4, 17, 33, 49];
 fn at_some_places(rt: &impl Abort, alloc: Global, line: &[u8]) -> Result<(), Fail> {
     for at in PLACES {
         for stays in [false, true] {
-            agree(rt, alloc, with_line(alloc, at, line, stays)?.as_slice())?;
+            let text = with_line(alloc, good_lines(), at, line, stays)?;
+            agree(rt, alloc, text.as_slice())?;
         }
     }
     Ok(())

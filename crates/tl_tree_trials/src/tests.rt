@@ -4,9 +4,9 @@ use std::process::Abort;
 use tl_file::{Bytes, FileBytes};
 use tl_journal::Journal;
 use tl_memhost::MemHost;
-use tl_object::{Object, read_object};
+use tl_object::{LineKind, Object, read_object};
 use tl_path::{Name, Path, PathRef};
-use tl_tree::Tree;
+use tl_tree::{Tree, TreeError, canonical_database};
 
 const DATABASE: &str = "tlpkg/texlive.tlpdb";
 
@@ -90,6 +90,10 @@ const RECORDS: &[&[u8]] = &[
 // A database in which two entries list one path.
 const LISTED: &[u8] =
     b"name b\nrunfiles size=0\n x/y\n\nname a\nbinfiles size=0 arch=p-q\n x/z\ndocfiles size=0\n x/y\n\nname c\nrunfiles size=0\n tlpkg/marks\nsrcfiles size=0\n x/s\n x/t\n";
+
+// Its canonical form.
+const LISTED_AS_WRITTEN: &[u8] =
+    b"name a\ncategory Package\nrevision 0\ndocfiles size=0\n x/y\nbinfiles arch=p-q size=0\n x/z\n\nname b\ncategory Package\nrevision 0\nrunfiles size=0\n x/y\n\nname c\ncategory Package\nrevision 0\nsrcfiles size=0\n x/s\n x/t\nrunfiles size=0\n tlpkg/marks\n\n";
 
 const OWNERS: &[(&str, Option<&str>)] = &[
     ("x/y", Some("a")),
@@ -235,4 +239,27 @@ fn a_tree_tells_its_names_and_their_owners(rt: HostRuntime) {
     assert!(rt; tree.say(b"done\n").is_ok());
     let host = tree.release().into_host();
     assert_eq!(rt; host.said(), b"done\n".as_slice());
+}
+
+// The database that a host holds, in its canonical form.
+fn canonical(rt: &impl Abort, alloc: Global, text: &[u8]) -> Result<Vec<u8>, TreeError> {
+    let host = host(rt, alloc, &[(DATABASE, text)]);
+    let mut recovered = Journal::recover(host).ok().expect(rt, "recovered");
+    canonical_database(alloc, &mut recovered.journal)
+}
+
+#[test]
+fn a_database_is_given_in_its_canonical_form(rt: HostRuntime) {
+    let alloc = rt.alloc();
+    for text in [LISTED, LISTED_AS_WRITTEN] {
+        let given = canonical(&rt, alloc, text).ok().expect(&rt, "a text");
+        assert_eq!(rt; given.as_slice(), LISTED_AS_WRITTEN);
+    }
+    let empty = canonical(&rt, alloc, b"").ok().expect(&rt, "a text");
+    assert!(rt; empty.is_empty());
+    let bad = TreeError::BadDatabase {
+        line: 2,
+        kind: LineKind::Key,
+    };
+    assert!(rt; canonical(&rt, alloc, b"name a\ncolour red\n").err() == Some(bad));
 }
