@@ -17,6 +17,3 @@ pub use help::usage;
 pub use lists::{Names, Texts};
 pub use table::OptionName;
 pub use tl_file::Bytes;
-
-#[cfg(test)]
-mod tests;

@@ -8,8 +8,6 @@ mod hyphen;
 mod lua;
 mod map;
 mod say;
-#[cfg(test)]
-mod tests;
 
 pub use database::{fmtutil, language_dat, language_def, language_lua, updmap};
 pub use file::{ConfigFile, push_executes, push_lines};

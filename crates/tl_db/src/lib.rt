@@ -6,19 +6,9 @@ mod db;
 mod fault;
 mod installation;
 mod kept;
-#[cfg(test)]
-mod kept_tests;
-#[cfg(test)]
-mod limit_tests;
-#[cfg(test)]
-mod option_tests;
 mod options;
-#[cfg(test)]
-mod order_tests;
 mod read;
 mod repo;
-#[cfg(test)]
-mod tests;
 mod write;
 
 pub use canonical::canonical_text;

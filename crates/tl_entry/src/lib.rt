@@ -11,8 +11,6 @@ mod lists;
 mod object;
 mod paths;
 mod rising;
-#[cfg(test)]
-mod tests;
 
 pub use copy::{Copied, copies};
 pub use form::is_fact_key;

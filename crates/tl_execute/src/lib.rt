@@ -8,8 +8,6 @@ mod list;
 mod map;
 mod part;
 mod read;
-#[cfg(test)]
-mod tests;
 mod value;
 
 pub use execute::{Execute, ExecuteError, ExecuteKind, MapKind, Texts};

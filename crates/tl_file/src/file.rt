@@ -86,30 +86,3 @@ impl FileList {
         self.files
     }
 }
-
-#[cfg(test)]
-mod tests {
-    use super::*;
-    use std::test::Fail;
-
-    #[test]
-    fn a_file_gives_its_bytes_back(rt: HostRuntime) -> Result<(), Fail> {
-        let bytes = Bytes::new(Vec::from_slice(rt.alloc(), b"hi")?);
-        assert_eq!(rt; bytes.as_slice(), b"hi".as_slice());
-        assert_eq!(rt; bytes.into_vec().as_slice(), b"hi".as_slice());
-        Ok(())
-    }
-
-    #[test]
-    fn a_list_gives_its_files_back(rt: HostRuntime) -> Result<(), Fail> {
-        let mut files = Vec::new(rt.alloc());
-        files.push(FileBytes {
-            path: Path::parse(rt.alloc(), b"a/b")?,
-            bytes: Bytes::new(Vec::new(rt.alloc())),
-        })?;
-        let list = FileList::new(files);
-        assert_eq!(rt; list.as_slice().len(), 1);
-        assert_eq!(rt; list.into_vec().len(), 1);
-        Ok(())
-    }
-}

@@ -84,17 +84,3 @@ impl<L: Ledger> Steps<L> {
         &self.kept_in
     }
 }
-
-#[cfg(test)]
-mod tests {
-    use super::*;
-
-    #[test]
-    fn a_tally_counts_each_step(rt: HostRuntime) {
-        let mut steps = Steps::new(Tally::new());
-        assert_eq!(rt; steps.ledger().count(), 0);
-        steps.tick();
-        steps.tick();
-        assert_eq!(rt; steps.ledger().count(), 2);
-    }
-}

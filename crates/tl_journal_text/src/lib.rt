@@ -4,8 +4,6 @@
 mod head;
 mod names;
 mod slot;
-#[cfg(test)]
-mod tests;
 
 pub use head::Head;
 pub use names::{is_outside, is_target, target};

@@ -17,6 +17,3 @@ pub use host::MemHost;
 pub use shelf::MemShelf;
 pub use source::MemSource;
 pub use stop::{Choice, StopError};
-
-#[cfg(test)]
-mod tests;

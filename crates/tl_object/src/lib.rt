@@ -2,19 +2,13 @@
 #![tactic(auto)]
 
 mod builder;
-#[cfg(test)]
-mod copy_tests;
 mod fault;
 mod file;
 mod head;
 mod key;
-#[cfg(test)]
-mod order_tests;
 mod read;
 mod section;
 mod source;
-#[cfg(test)]
-mod tests;
 mod value;
 mod write;
 

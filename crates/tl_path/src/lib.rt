@@ -25,6 +25,3 @@ pub use path_ref::PathRef;
 pub use platform::{Platform, is_platform};
 pub use platforms::Platforms;
 pub use tag::Tag;
-
-#[cfg(test)]
-mod tests;

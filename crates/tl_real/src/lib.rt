@@ -12,6 +12,3 @@ mod walk;
 
 pub use failure::{Doing, Failure};
 pub use host::FolderHost;
-
-#[cfg(test)]
-mod tests;

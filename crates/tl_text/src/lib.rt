@@ -3,8 +3,6 @@
 
 mod number;
 mod span;
-#[cfg(test)]
-mod tests;
 mod text;
 mod words;
 

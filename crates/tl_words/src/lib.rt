@@ -19,8 +19,3 @@ pub use tl_action::{
     Action, Bytes, Command, Names, PinAction, Repositories, Repository, Texts, usage,
 };
 pub use tl_path::Check;
-
-#[cfg(test)]
-mod fault_tests;
-#[cfg(test)]
-mod tests;

@@ -13,7 +13,5 @@ mod first;
 mod lines;
 mod middle;
 mod paths;
-#[cfg(test)]
-mod tests;
 
 pub use entry::{Written, written_entry};
