@@ -3,6 +3,7 @@ pub mod Causes
 pub mod Decimal
 pub mod Devices
 pub mod Joins
+pub mod Left
 pub mod Lines
 pub mod Pictures
 pub mod Seen
