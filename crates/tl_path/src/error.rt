@@ -4,7 +4,7 @@ use std::alloc::AllocError;
 use thiserror::Error;
 
 /// A text isn't a path.
-#[derive(Clone, Copy, Debug, Error)]
+#[derive(Clone, Copy, Debug, PartialEq, Eq, Error)]
 pub enum PathError {
     /// The text's first fault: the byte it stands at, from 0, and its kind.
     #[error("no path: {kind:?} at byte {at}")]
@@ -20,7 +20,7 @@ pub enum PathError {
 }
 
 /// A text isn't a name.
-#[derive(Clone, Copy, Debug, Error)]
+#[derive(Clone, Copy, Debug, PartialEq, Eq, Error)]
 pub enum NameError {
     /// The text is no name.
     #[error("no name, from byte {at} on")]
@@ -34,7 +34,7 @@ pub enum NameError {
 }
 
 /// A text isn't a tag.
-#[derive(Clone, Copy, Debug, Error)]
+#[derive(Clone, Copy, Debug, PartialEq, Eq, Error)]
 pub enum TagError {
     /// The text is no tag.
     #[error("no tag")]
@@ -45,7 +45,7 @@ pub enum TagError {
 }
 
 /// A text lists no platforms.
-#[derive(Clone, Copy, Debug, Error)]
+#[derive(Clone, Copy, Debug, PartialEq, Eq, Error)]
 pub enum PlatformsError {
     /// The text's first word that is no platform, repeats one before it or is the 33rd.
     #[error("no platforms: the word at byte {at}")]
