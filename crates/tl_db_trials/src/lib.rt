@@ -1,14 +1,24 @@
-//! Trials of the package database against its definition, computed slowly.
+//! Trials of entries, of the package database and of what is made of it: tables, and the database's definition, computed slowly.
 #![tactic(auto)]
 
+#[cfg(test)]
+mod databases;
+#[cfg(test)]
+mod entries;
+#[cfg(test)]
+mod executes;
 #[cfg(test)]
 mod forms;
 #[cfg(test)]
 mod good;
 #[cfg(test)]
+mod kept;
+#[cfg(test)]
 mod lines;
 #[cfg(test)]
 mod long;
+#[cfg(test)]
+mod options;
 #[cfg(test)]
 mod slow;
 #[cfg(test)]

@@ -1,8 +1,12 @@
-//! Trials of the journal over devices in memory.
+//! Trials of the devices, and of the journal over devices in memory.
 #![tactic(auto)]
 
 #[cfg(test)]
 mod counts;
+#[cfg(test)]
+mod devices;
+#[cfg(test)]
+mod folders;
 #[cfg(test)]
 mod order;
 #[cfg(test)]

@@ -60,7 +60,7 @@ fn start(rt: &impl Abort, alloc: Global, number: u64) -> Result<MemHost, Fail> {
 const CHOICES: u64 = 6;
 
 // What a stop leaves at each touched name.
-fn choice(alloc: Global, number: u64) -> Result<Choice, Fail> {
+pub(crate) fn choice(alloc: Global, number: u64) -> Result<Choice, Fail> {
     Ok(match number {
         0 => Choice::Kept,
         1 => Choice::Gone,
