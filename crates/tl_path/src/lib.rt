@@ -14,6 +14,7 @@ mod path_ref;
 mod platform;
 mod platforms;
 mod tag;
+mod word;
 
 pub use components::Components;
 pub use error::{NameError, PathError, PlatformsError, TagError};

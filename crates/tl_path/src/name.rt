@@ -1,22 +1,19 @@
 // A package's name.
 ghost use Rattle.std.specs.Prelude.{◌≡◌, nat_eq, refl, true, false, Some, MatchResult};
-ghost use Rattle.std.specs.List.{list_all, prefix_len};
+ghost use Rattle.std.specs.List.{prefix_len};
 ghost use Rattle.std.specs.Ordering.{nat_cmp};
-ghost use Rattle.std.specs.Hash as fed;
 ghost use Rattle.std.specs.Cmp.{partial_equiv_from_equiv};
-ghost use Rattle.std.specs.Cmp.Rules.{hashing};
 ghost use Rattle.std.specs.Cmp.Lexicographic.{pointwise, slice_cmp, nat_list_eq_equiv, nat_list_cmp_total, texts_ties, texts_po};
-ghost use Rattle.std.proofs.Common.{rules};
 ghost use Rattle.tl_path.specs.Bytes.{is_of_name};
 ghost use Rattle.tl_path.specs.Names.{is_name, IsLongestNameFront};
 ghost use Rattle.tl_path.specs.Errors.{IsNameErrorOf};
 
 use crate::bytes::{is_letter_or_digit, is_of_name};
 use crate::error::NameError;
+use crate::word::{WordKind, text_of};
 use std::alloc::{AllocError, Global};
 use std::cmp::Ordering;
 use std::fmt;
-use std::hash::{Hash, Hasher};
 use std::marker::Model;
 
 /// A package's name: 1 to 128 letters of ASCII, digits, `.`, `_`, `-` and `+`, the first a letter or digit. Its
@@ -37,10 +34,9 @@ impl Model for Name {
     ghost invariant = { λ a. is_name (string_bytes a.text) ≡ true };
 }
 
-const LONGEST: usize = 128;
-
 impl Name {
     /// Reads a name. `BadName` comes exactly for a text that is none; `NoMemory` comes only for a name.
+    #[tactic(auto, using(crate::proofs::Words::name_utf8))]
     pub fn parse(alloc: Global, text: &[u8]) -> Result<Name, NameError>
         ensures { MatchResult result (λ name. (name ≡ text.now) × (is_name text.now ≡ true)) (IsNameErrorOf text.now) }
     {
@@ -49,7 +45,7 @@ impl Name {
                 at: name_front(text),
             });
         }
-        match String::from_str(alloc, name_text(text)) {
+        match String::from_str(alloc, text_of(text)) {
             Ok(text) => Ok(Name { text }),
             Err(_) => Err(NameError::NoMemory),
         }
@@ -120,16 +116,6 @@ impl Ord for Name {
     }
 }
 
-impl Hash for Name {
-    ghost hash_input = { fed.str };
-
-    ghost respects_eq = { Prim.search (hashing, rules) };
-
-    fn hash<H: Hasher>(&self, state: &mut H) {
-        self.text().hash(state);
-    }
-}
-
 impl fmt::Display for Name {
     ghost output = { λ name. Some name };
 
@@ -148,24 +134,7 @@ impl fmt::Debug for Name {
 pub fn is_name(text: &[u8]) -> bool
     ensures { result ≡ is_name text.now }
 {
-    !text.is_empty()
-        && text.len() <= LONGEST
-        && is_letter_or_digit(text[0])
-        && has_only_name_bytes(text)
-}
-
-fn has_only_name_bytes(text: &[u8]) -> bool
-    ensures { result ≡ list_all is_of_name text.now }
-{
-    text.iter().all(|byte| is_of_name(*byte))
-}
-
-#[tactic(auto, using(crate::proofs::Words::name_utf8))]
-fn name_text(text: &[u8]) -> &str
-    requires { is_name text.now ≡ true }
-    ensures { result.now ≡ text.now }
-{
-    std::str::from_utf8(text).unwrap()
+    WordKind::Name.is_met(text)
 }
 
 // How long the longest front is that some name begins with too.
@@ -175,7 +144,7 @@ fn name_front(text: &[u8]) -> u32
     ensures { IsLongestNameFront text.now result }
 {
     if !text.is_empty() && is_letter_or_digit(text[0]) {
-        leading(text).min(LONGEST) as u32
+        leading(text).min(WordKind::Name.longest()) as u32
     } else {
         0
     }

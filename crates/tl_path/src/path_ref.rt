@@ -8,6 +8,7 @@ use crate::below::is_reserved;
 use crate::components::Components;
 use crate::fault::{PathFault, PathKind, earlier_of, place_fault, size_fault};
 use crate::path::Path;
+use crate::word::text_of;
 use std::alloc::{AllocError, Global};
 use std::marker::Model;
 
@@ -53,9 +54,8 @@ impl<'a> PathRef<'a> {
         requires { IsPath bytes.now }
         ensures { result ≡ bytes.now }
     {
-        // A path is UTF-8.
         PathRef {
-            text: unsafe { std::str::from_utf8_unchecked(bytes) },
+            text: text_of(bytes),
         }
     }
 

@@ -1,14 +1,15 @@
 // One platform, and the parts of a text between its blanks.
 ghost use Rattle.std.specs.Prelude.{◌≡◌, ◌+◌, ◌<◌, [], ◌∷◌, nat_eq, refl, true, Some, length, take, drop, position, IfOk, MatchOption};
-ghost use Rattle.std.specs.List.{list_all, slice_split};
+ghost use Rattle.std.specs.List.{slice_split};
 ghost use Rattle.std.specs.Iterator.{YieldsFirstRef, item_count};
 ghost use Rattle.std.specs.Ordering.{nat_cmp};
 ghost use Rattle.std.specs.Cmp.{partial_equiv_from_equiv};
 ghost use Rattle.std.specs.Cmp.Lexicographic.{pointwise, slice_cmp, nat_list_eq_equiv, nat_list_cmp_total, texts_ties, texts_po};
-ghost use Rattle.tl_path.specs.Bytes.{is_blank, is_of_platform};
+ghost use Rattle.tl_path.specs.Bytes.{is_blank};
 ghost use Rattle.tl_path.specs.Names.{is_platform};
 
-use crate::bytes::{is_blank, is_lower_or_digit, is_of_platform};
+use crate::bytes::is_blank;
+use crate::word::{WordKind, text_of};
 use std::alloc::{AllocError, Global};
 use std::cmp::Ordering;
 use std::marker::Model;
@@ -31,16 +32,15 @@ impl Model for Platform {
     ghost invariant = { λ a. is_platform (string_bytes a.text) ≡ true };
 }
 
-const LONGEST: usize = 32;
-
 impl Platform {
     /// The platform of a text that has the form of one.
+    #[tactic(auto, using(crate::proofs::Parts::platform_utf8))]
     pub fn of(alloc: Global, text: &[u8]) -> Result<Platform, AllocError>
         requires { is_platform text.now ≡ true }
         ensures { IfOk result (λ platform. platform ≡ text.now) }
     {
         Ok(Platform {
-            text: String::from_str(alloc, platform_text(text))?,
+            text: String::from_str(alloc, text_of(text))?,
         })
     }
 
@@ -112,24 +112,7 @@ impl Ord for Platform {
 pub fn is_platform(text: &[u8]) -> bool
     ensures { result ≡ is_platform text.now }
 {
-    !text.is_empty()
-        && text.len() <= LONGEST
-        && is_lower_or_digit(text[0])
-        && has_only_platform_bytes(text)
-}
-
-fn has_only_platform_bytes(text: &[u8]) -> bool
-    ensures { result ≡ list_all is_of_platform text.now }
-{
-    text.iter().all(|byte| is_of_platform(*byte))
-}
-
-#[tactic(auto, using(crate::proofs::Parts::platform_utf8))]
-fn platform_text(text: &[u8]) -> &str
-    requires { is_platform text.now ≡ true }
-    ensures { result.now ≡ text.now }
-{
-    std::str::from_utf8(text).unwrap()
+    WordKind::Platform.is_met(text)
 }
 
 // An iterator over the parts of a text that blanks part.

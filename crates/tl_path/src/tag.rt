@@ -1,22 +1,16 @@
 // A repository's tag.
 ghost use Rattle.std.specs.Prelude.{◌≡◌, nat_eq, refl, true, Some, MatchResult};
-ghost use Rattle.std.specs.List.{list_all};
 ghost use Rattle.std.specs.Ordering.{nat_cmp};
-ghost use Rattle.std.specs.Hash as fed;
 ghost use Rattle.std.specs.Cmp.{partial_equiv_from_equiv};
-ghost use Rattle.std.specs.Cmp.Rules.{hashing};
 ghost use Rattle.std.specs.Cmp.Lexicographic.{pointwise, slice_cmp, nat_list_eq_equiv, nat_list_cmp_total, texts_ties, texts_po};
-ghost use Rattle.std.proofs.Common.{rules};
-ghost use Rattle.tl_path.specs.Bytes.{is_of_tag};
 ghost use Rattle.tl_path.specs.Names.{is_tag};
 ghost use Rattle.tl_path.specs.Errors.{IsTagErrorOf};
 
-use crate::bytes::{is_letter_or_digit, is_of_tag};
 use crate::error::TagError;
+use crate::word::{WordKind, text_of};
 use std::alloc::{AllocError, Global};
 use std::cmp::Ordering;
 use std::fmt;
-use std::hash::{Hash, Hasher};
 use std::marker::Model;
 
 /// A repository's tag: 1 to 64 letters of ASCII, digits, `_` and `-`, the first a letter or digit. Its order is that
@@ -37,17 +31,16 @@ impl Model for Tag {
     ghost invariant = { λ a. is_tag (string_bytes a.text) ≡ true };
 }
 
-const LONGEST: usize = 64;
-
 impl Tag {
     /// Reads a tag. `NotTag` comes exactly for a text that is none; `NoMemory` comes only for a tag.
+    #[tactic(auto, using(crate::proofs::Words::tag_utf8))]
     pub fn parse(alloc: Global, text: &[u8]) -> Result<Tag, TagError>
         ensures { MatchResult result (λ tag. (tag ≡ text.now) × (is_tag text.now ≡ true)) (IsTagErrorOf text.now) }
     {
         if !is_tag(text) {
             return Err(TagError::NotTag);
         }
-        match String::from_str(alloc, tag_text(text)) {
+        match String::from_str(alloc, text_of(text)) {
             Ok(text) => Ok(Tag { text }),
             Err(_) => Err(TagError::NoMemory),
         }
@@ -118,16 +111,6 @@ impl Ord for Tag {
     }
 }
 
-impl Hash for Tag {
-    ghost hash_input = { fed.str };
-
-    ghost respects_eq = { Prim.search (hashing, rules) };
-
-    fn hash<H: Hasher>(&self, state: &mut H) {
-        self.text().hash(state);
-    }
-}
-
 impl fmt::Display for Tag {
     ghost output = { λ tag. Some tag };
 
@@ -145,22 +128,5 @@ impl fmt::Debug for Tag {
 fn is_tag(text: &[u8]) -> bool
     ensures { result ≡ is_tag text.now }
 {
-    !text.is_empty()
-        && text.len() <= LONGEST
-        && is_letter_or_digit(text[0])
-        && has_only_tag_bytes(text)
-}
-
-fn has_only_tag_bytes(text: &[u8]) -> bool
-    ensures { result ≡ list_all is_of_tag text.now }
-{
-    text.iter().all(|byte| is_of_tag(*byte))
-}
-
-#[tactic(auto, using(crate::proofs::Words::tag_utf8))]
-fn tag_text(text: &[u8]) -> &str
-    requires { is_tag text.now ≡ true }
-    ensures { result.now ≡ text.now }
-{
-    std::str::from_utf8(text).unwrap()
+    WordKind::Tag.is_met(text)
 }

@@ -7,7 +7,7 @@ use Rattle.tl_path.proofs.name.name_front.Goals.{else-not-is_empty-via-then-not-
 pub returns-then-is_letter_or_digit : goal.returns-then-is_letter_or_digit
 returns-then-is_letter_or_digit c =
     let some : 0 < length c.args.text.now = grind (arith, nat_tests) in
-    rw (c.min.ensures, c.leading.ensures)
+    rw (c.min.ensures, c.longest.ensures, c.leading.ensures)
     (longest_front c.args.text.now some (sym c.is_letter_or_digit.ensures ∙ c.if-is_letter_or_digit.true))
 
 pub returns-else-not-is_empty : goal.returns-else-not-is_empty
