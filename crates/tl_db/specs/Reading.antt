@@ -6,7 +6,7 @@ use Rattle.tl_object.specs.Reading.{as_object, entry_groups, first_name}
 use Rattle.tl_entry.specs.declared.object.Object.{Object}
 use Rattle.tl_object.specs.declared.fault.LineKind.{LineKind}
 use Rattle.tl_object.specs.declared.fault.LineKind.TheVariants.{Repeated}
-use Rattle.tl_db.specs.declared.fault.What.TheVariants as what
+use Rattle.tl_kind.specs.declared.quantity.What.TheVariants as what
 use Rattle.tl_db.specs.declared.fault.DbError.{DbError}
 use Rattle.tl_db.specs.declared.fault.DbError.TheVariants.{BadDatabase, TooLarge, NoMemory}
 

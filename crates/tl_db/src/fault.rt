@@ -1,33 +1,7 @@
 //! Why a database doesn't read.
 
+use tl_kind::What;
 use tl_object::LineKind;
-
-/// What passed its limit.
-#[derive(Clone, Copy, Debug, PartialEq, Eq)]
-pub enum What {
-    /// A line of input, in bytes.
-    Line,
-    /// The input of a session, in bytes.
-    Input,
-    /// A package's source, in bytes.
-    Source,
-    /// The pins, in bytes.
-    Pins,
-    /// The database, in bytes.
-    Database,
-    /// The marks, in bytes.
-    Marks,
-    /// A file, in bytes.
-    File,
-    /// A container, in bytes.
-    Frame,
-    /// The entries of a database.
-    Packages,
-    /// The sources of a master.
-    Sources,
-    /// The files of a volume.
-    Files,
-}
 
 /// Why a database doesn't read.
 #[derive(Clone, Copy, Debug, PartialEq, Eq)]

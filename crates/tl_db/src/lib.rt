@@ -13,9 +13,10 @@ mod write;
 
 pub use canonical::canonical_text;
 pub use db::{Db, Entries};
-pub use fault::{DbError, What};
+pub use fault::DbError;
 pub use kept::KeptDb;
 pub use options::{OptionError, TreeOption};
 pub use read::read_db;
 pub use repo::Repo;
+pub use tl_kind::What;
 pub use write::write_db;

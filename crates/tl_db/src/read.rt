@@ -4,9 +4,10 @@ ghost use Rattle.tl_object.specs.Reading.{GivesAt};
 ghost use Rattle.tl_db.specs.Reading.{db_of, IsRead, IsDbError};
 
 use crate::db::Db;
-use crate::fault::{DbError, What};
+use crate::fault::DbError;
 use std::alloc::Global;
 use tl_entry::Gathered;
+use tl_kind::What;
 use tl_object::{LineKind, ObjectError, next_entry, read_entry, read_entry_name};
 
 pub(crate) const MOST_BYTES: u64 = 268_435_456;

@@ -6,7 +6,7 @@ use Rattle.tl_model.specs.Acks.{IsLabel}
 use Rattle.tl_model.specs.Trace.{steps_of, Trace, Cut}
 use Rattle.tl_journal_text.specs.Stand.{stand, tree_of}
 use Rattle.tl_entry.specs.declared.object.Object.{Object}
-use Rattle.tl_db.specs.declared.fault.What.{What}
+use Rattle.tl_kind.specs.declared.quantity.What.{What}
 use Rattle.tl_tree.specs.Planted.{Planted}
 use Rattle.tl_tree.specs.Changes.{with_entry, entries_after, changed, made, names_of, IsChange}
 use Rattle.tl_tree.specs.Answers.{IsAllowed, IsWithin, IsTooLarge, step_of}

@@ -14,8 +14,8 @@ use Rattle.tl_words.specs.declared.error.WordKind.{WordKind}
 use Rattle.tl_words.specs.declared.error.WordKind.TheVariants as words
 use Rattle.tl_object.specs.declared.fault.LineKind.{LineKind}
 use Rattle.tl_object.specs.declared.fault.LineKind.TheVariants as lines
-use Rattle.tl_db.specs.declared.fault.What.{What}
-use Rattle.tl_db.specs.declared.fault.What.TheVariants as quantities
+use Rattle.tl_kind.specs.declared.quantity.What.{What}
+use Rattle.tl_kind.specs.declared.quantity.What.TheVariants as quantities
 use Rattle.tl_tool.specs.declared.refusal.Refusal.TheVariants.{BadWords, BadJournal, BadDatabase, UnknownOption, BadValue, TooLarge}
 use Rattle.tl_tool.specs.Kinds.{word_kind_name, line_kind_name, quantity_name}
 use Rattle.tl_tool.specs.Refusals.{refusal_line, refusal_text}

@@ -12,8 +12,8 @@ use Rattle.tl_entry.specs.declared.object.Object.{Object}
 use Rattle.tl_object.specs.declared.fault.LineKind.{LineKind}
 use Rattle.tl_db.specs.Reading.{db_of, IsRead, HasTooMany}
 use Rattle.tl_db.specs.Text.{db_text}
-use Rattle.tl_db.specs.declared.fault.What.{What}
-use Rattle.tl_db.specs.declared.fault.What.TheVariants as what
+use Rattle.tl_kind.specs.declared.quantity.What.{What}
+use Rattle.tl_kind.specs.declared.quantity.What.TheVariants as what
 use Rattle.tl_tree.specs.Traces.{stays_trace, stays_cut, resumed_trace, trace_rest, trace_rest_cut}
 use Rattle.tl_tree.specs.Answers.{IsTreeError, IsTooLarge}
 use Rattle.tl_tree.specs.declared.error.TreeError.TheVariants as loading

@@ -4,8 +4,8 @@ use Rattle.tl_words.specs.declared.error.WordKind.{WordKind}
 use Rattle.tl_words.specs.declared.error.WordKind.TheVariants as words
 use Rattle.tl_object.specs.declared.fault.LineKind.{LineKind}
 use Rattle.tl_object.specs.declared.fault.LineKind.TheVariants as lines
-use Rattle.tl_db.specs.declared.fault.What.{What}
-use Rattle.tl_db.specs.declared.fault.What.TheVariants as quantities
+use Rattle.tl_kind.specs.declared.quantity.What.{What}
+use Rattle.tl_kind.specs.declared.quantity.What.TheVariants as quantities
 
 -- a kind of words that are no command, by its name
 abbrev pub word_kind_name : WordKind → List ℕ

@@ -10,7 +10,7 @@ use Rattle.tl_object.specs.declared.fault.LineKind.{LineKind}
 use Rattle.tl_db.specs.Reading.{db_of}
 use Rattle.tl_db.specs.Text.{db_text}
 use Rattle.tl_db.specs.Options.{option_named, entry_with}
-use Rattle.tl_db.specs.declared.fault.What.TheVariants.{Database, Packages}
+use Rattle.tl_kind.specs.declared.quantity.What.TheVariants.{Database, Packages}
 use Rattle.tl_db.specs.declared.options.TreeOption.{TreeOption}
 use Rattle.tl_db.specs.declared.options.OptionError.{OptionError}
 use Rattle.tl_db.specs.declared.options.OptionError.TheVariants as options

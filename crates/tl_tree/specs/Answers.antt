@@ -5,8 +5,8 @@ use Rattle.tl_model.specs.Trace.{Event, Step, Trace, Cut}
 use Rattle.tl_entry.specs.declared.object.Object.{Object}
 use Rattle.tl_db.specs.Reading.{db_of, HasTooMany}
 use Rattle.tl_db.specs.Text.{db_text}
-use Rattle.tl_db.specs.declared.fault.What.TheVariants as quantities
-use Rattle.tl_db.specs.declared.fault.What.{What}
+use Rattle.tl_kind.specs.declared.quantity.What.TheVariants as quantities
+use Rattle.tl_kind.specs.declared.quantity.What.{What}
 use Rattle.tl_journal_text.specs.Stand.{stand, tree_of}
 use Rattle.tl_tree.specs.Planted.{Planted}
 use Rattle.tl_tree.specs.Changes.{entries_after, has_entries, changed}
