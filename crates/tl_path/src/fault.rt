@@ -8,7 +8,7 @@ use crate::bytes::is_barred;
 use crate::components::{Components, is_no_component};
 
 /// The ways in which a text fails to be a path.
-#[derive(Clone, Copy, Debug)]
+#[derive(Clone, Copy, Debug, PartialEq, Eq)]
 pub enum PathKind {
     /// It has no byte.
     Empty,
@@ -25,7 +25,7 @@ pub enum PathKind {
 }
 
 /// The first fault of a text that isn't a path: the byte it stands at, counted from 0, and its kind.
-#[derive(Clone, Copy, Debug)]
+#[derive(Clone, Copy, Debug, PartialEq, Eq)]
 pub struct PathFault {
     /// The place, in bytes from the text's start.
     pub at: u32,

@@ -2,8 +2,11 @@
 ghost use Rattle.std.specs.Prelude.{◌≡◌, nat_eq, refl, true, false, Some, MatchResult};
 ghost use Rattle.std.specs.List.{prefix_len};
 ghost use Rattle.std.specs.Ordering.{nat_cmp};
+ghost use Rattle.std.specs.Hash as fed;
 ghost use Rattle.std.specs.Cmp.{partial_equiv_from_equiv};
+ghost use Rattle.std.specs.Cmp.Rules.{hashing};
 ghost use Rattle.std.specs.Cmp.Lexicographic.{pointwise, slice_cmp, nat_list_eq_equiv, nat_list_cmp_total, texts_ties, texts_po};
+ghost use Rattle.std.proofs.Common.{rules};
 ghost use Rattle.tl_path.specs.Bytes.{is_of_name};
 ghost use Rattle.tl_path.specs.Names.{is_name, IsLongestNameFront};
 ghost use Rattle.tl_path.specs.Errors.{IsNameErrorOf};
@@ -14,6 +17,7 @@ use crate::word::{WordKind, text_of};
 use std::alloc::{AllocError, Global};
 use std::cmp::Ordering;
 use std::fmt;
+use std::hash::{Hash, Hasher};
 use std::marker::Model;
 
 /// A package's name: 1 to 128 letters of ASCII, digits, `.`, `_`, `-` and `+`, the first a letter or digit. Its
@@ -113,6 +117,16 @@ impl Ord for Name {
 
     fn cmp(&self, other: &Name) -> Ordering {
         self.text().cmp(other.text())
+    }
+}
+
+impl Hash for Name {
+    ghost hash_input = { fed.str };
+
+    ghost respects_eq = { Prim.search (hashing, rules) };
+
+    fn hash<H: Hasher>(&self, state: &mut H) {
+        self.text().hash(state);
     }
 }
 

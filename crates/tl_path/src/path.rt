@@ -1,8 +1,11 @@
 // A path that keeps its text.
 ghost use Rattle.std.specs.Prelude.{◌≡◌, nat_eq, refl, Some, IfOk, MatchResult};
 ghost use Rattle.std.specs.Ordering.{nat_cmp};
+ghost use Rattle.std.specs.Hash as fed;
 ghost use Rattle.std.specs.Cmp.{partial_equiv_from_equiv};
+ghost use Rattle.std.specs.Cmp.Rules.{hashing};
 ghost use Rattle.std.specs.Cmp.Lexicographic.{pointwise, slice_cmp, nat_list_eq_equiv, nat_list_cmp_total, texts_ties, texts_po};
+ghost use Rattle.std.proofs.Common.{rules};
 ghost use Rattle.tl_path.specs.Path.{IsPath};
 ghost use Rattle.tl_path.specs.Components.{components, is_below, is_touching};
 ghost use Rattle.tl_path.specs.Reserved.{is_reserved};
@@ -15,6 +18,7 @@ use crate::path_ref::{PathRef, path_text};
 use std::alloc::{AllocError, Global};
 use std::cmp::Ordering;
 use std::fmt;
+use std::hash::{Hash, Hasher};
 use std::marker::Model;
 
 /// A path below the root of a tree: UTF-8 of 1 to 1,024 bytes, whose 1 to 64 components are parted by `/`. No
@@ -160,6 +164,16 @@ impl Ord for Path {
 
     fn cmp(&self, other: &Path) -> Ordering {
         self.text().cmp(other.text())
+    }
+}
+
+impl Hash for Path {
+    ghost hash_input = { fed.str };
+
+    ghost respects_eq = { Prim.search (hashing, rules) };
+
+    fn hash<H: Hasher>(&self, state: &mut H) {
+        self.text().hash(state);
     }
 }
 

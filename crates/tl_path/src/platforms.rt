@@ -1,6 +1,8 @@
 // Some platforms, as of a tree.
-ghost use Rattle.std.specs.Prelude.{◌≡◌, ◌<◌, ◌^◌, ◌++◌, [], ◌∷◌, length, slice_get, true, MatchBool, MatchResult, OnOk, bytes_eq, Some};
+ghost use Rattle.std.specs.Prelude.{◌≡◌, ◌<◌, ◌^◌, ◌++◌, [], ◌∷◌, length, slice_get, nat_eq, true, MatchBool, MatchResult, OnOk, bytes_eq, Some};
 ghost use Rattle.std.specs.Option.{option_copied};
+ghost use Rattle.std.specs.Cmp.{partial_equiv_from_equiv};
+ghost use Rattle.std.specs.Cmp.Lexicographic.{pointwise, nat_list_eq_equiv, lists_equiv};
 ghost use Rattle.std.specs.List.{join_with_byte, list_any};
 ghost use Rattle.tl_path.specs.Names.{is_platform};
 ghost use Rattle.tl_path.specs.Platforms.{ArePlatforms, ArePlatformsInOrder, AreListed};
@@ -80,6 +82,30 @@ impl Platforms {
             None => None,
         }
     }
+}
+
+impl Clone for Platforms {
+    ghost is_clone = { λ s t. t ≡ s };
+
+    fn clone(&self) -> Result<Platforms, AllocError> {
+        Ok(Platforms {
+            names: self.names.clone()?,
+        })
+    }
+}
+
+impl PartialEq for Platforms {
+    ghost eq = { pointwise (pointwise nat_eq) };
+
+    ghost laws = { partial_equiv_from_equiv (lists_equiv nat_list_eq_equiv) };
+
+    fn eq(&self, other: &Platforms) -> bool {
+        self.names == other.names
+    }
+}
+
+impl Eq for Platforms {
+    ghost laws = { lists_equiv nat_list_eq_equiv };
 }
 
 // The platforms, joined by one space.
