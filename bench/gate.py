@@ -151,24 +151,37 @@ def read_table(text):
 
 def table(seconds):
     """The rows for all crates; a dash stands where nothing was measured."""
-    known = lambda work: [seconds[it] for it in work if it in seconds]
-    cell = lambda work: f"{sum(known(work)):.0f}" if known(work) else "-"
-    row = lambda head, names: f"| {head} | " + " | ".join(
-        [*(cell([(name, kind) for name in names]) for kind in KINDS), cell([(name, kind) for name in names for kind in KINDS])]
-    ) + " |"
+    def cell(names, kinds):
+        known = [seconds[name, kind] for name in names for kind in kinds if (name, kind) in seconds]
+        return f"{sum(known):.0f}" if known else "-"
+
+    def row(head, names):
+        cells = [cell(names, [kind]) for kind in KINDS] + [cell(names, KINDS)]
+        return f"| {head} | {' | '.join(cells)} |"
+
     head = [f"| crate | {' | '.join(KINDS)} | all |", "|---" * (len(KINDS) + 2) + "|"]
     return "\n".join([*head, *(row(f"`{name}`", [name]) for name in crates()), row("all", crates())])
 
 
+def has_tests(folder):
+    """Whether a file of the crate has a test."""
+    for at, _, names in os.walk(f"{folder}/src"):
+        for name in names:
+            with open(f"{at}/{name}", encoding="utf-8") as file:
+                if "#[test]" in file.read():
+                    return True
+    return False
+
+
 def stands(work):
-    """Whether the crate still has tests or wrong bodies, for which the page may keep numbers."""
+    """Whether the crate has such work, so that the page may keep its number."""
     crate, kind = work
     folder = f"{TOP}/crates/{crate}"
-    if kind == "wrong bodies":
-        return os.path.isdir(f"{folder}/must-fail") and any(it.endswith(".edit") for it in os.listdir(f"{folder}/must-fail"))
     if kind == "tests":
-        files = [f"{at}/{name}" for at, _, names in os.walk(f"{folder}/src") for name in names if name.endswith(".rt")]
-        return any("#[test]" in open(it, encoding="utf-8").read() for it in files)
+        return has_tests(folder)
+    if kind == "wrong bodies":
+        edits = f"{folder}/must-fail"
+        return os.path.isdir(edits) and any(it.endswith(".edit") for it in os.listdir(edits))
     return crate in crates()
 
 
