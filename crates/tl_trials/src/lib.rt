@@ -1,9 +1,9 @@
-//! Trials across crates: the top call over devices in memory.
+//! Trials across crates: the top call over devices in memory, with stops and failing calls.
 #![tactic(auto)]
 
 #[cfg(test)]
-mod options;
+mod hosts;
+#[cfg(test)]
+mod pieces;
 #[cfg(test)]
 mod stops;
-#[cfg(test)]
-mod tests;

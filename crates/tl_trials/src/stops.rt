@@ -1,11 +1,54 @@
 // The setting of an option, stopped at each of its calls, or with one of them failing.
-use crate::options::{KEPT, LABEL, MADE, SET, SHOW};
-use crate::tests::{DATABASE, bytes_of, path, run, run_failing, words};
+use crate::hosts::{bytes_of, host, path, words};
 use std::alloc::Global;
 use std::process::Abort;
 use tl_file::Bytes;
 use tl_memhost::{Choice, MemHost};
 use tl_tool::{Ending, texlive};
+
+const DATABASE: &str = "tlpkg/texlive.tlpdb";
+
+const SET: [&str; 4] = ["T", "option", "autobackup", "1"];
+
+const SHOW: [&str; 2] = ["T", "option"];
+
+const LABEL: &str = "step 1/1 option autobackup done\n";
+
+const KEPT: &[u8] =
+    b"name 00texlive.installation\ncategory TLCore\nrevision 0\ndepend opt_autobackup:1\n\n";
+
+// The files that are made from a database without executes.
+const MADE: [(&str, &[u8]); 5] = [
+    (
+        "texmf-dist/web2c/fmtutil.cnf",
+        b"# fmtutil.cnf, written by tlmgr\n",
+    ),
+    (
+        "texmf-dist/web2c/updmap.cfg",
+        b"# updmap.cfg, written by tlmgr\n",
+    ),
+    (
+        "texmf-var/tex/generic/config/language.dat",
+        b"% language.dat, written by tlmgr\n",
+    ),
+    (
+        "texmf-var/tex/generic/config/language.dat.lua",
+        b"-- language.dat.lua, written by tlmgr\nreturn {\n}\n",
+    ),
+    (
+        "texmf-var/tex/generic/config/language.def",
+        b"% language.def, written by tlmgr\n",
+    ),
+];
+
+// Sets the option over the empty host, of which the call of a number fails, where there is one.
+fn set(rt: &impl Abort, alloc: Global, failing: Option<u64>) -> (Ending, MemHost) {
+    let mut host = host(rt, alloc, &[]);
+    if let Some(call) = failing {
+        host.fail_at(call).ok().expect(rt, "memory");
+    }
+    texlive(alloc, &words(rt, alloc, &SET), host)
+}
 
 // What a stop leaves at each touched name.
 fn choice(rt: &impl Abort, alloc: Global, number: u64) -> Choice {
@@ -61,7 +104,7 @@ fn made_before(rt: &impl Abort, alloc: Global, host: &MemHost, call: u64) -> u64
 #[test]
 fn a_stopped_setting_is_made_or_not(rt: HostRuntime) {
     let alloc = rt.alloc();
-    let (ending, made) = run(&rt, alloc, &[], &SET);
+    let (ending, made) = set(&rt, alloc, None);
     assert!(rt; ending == Ending::Done);
     assert!(rt; is_after(&rt, alloc, &made));
     assert_eq!(rt; made.said(), LABEL.as_bytes());
@@ -75,38 +118,13 @@ fn a_stopped_setting_is_made_or_not(rt: HostRuntime) {
 #[test]
 fn a_failing_call_ends_the_setting_and_the_next_run_repairs_the_tree(rt: HostRuntime) {
     let alloc = rt.alloc();
-    let (_, made) = run(&rt, alloc, &[], &SET);
+    let (_, made) = set(&rt, alloc, None);
     for call in 0..made.calls() {
-        let (ending, host) = run_failing(&rt, alloc, &SET, call);
+        let (ending, host) = set(&rt, alloc, Some(call));
         assert!(rt; ending == Ending::HostFault);
         let said = host.said().len();
         assert_eq!(rt; host.calls(), call + 1);
         let after = repaired(&rt, alloc, host);
         assert!(rt; after || said == 0);
     }
-}
-
-// The call that is the sync of this number, where the option is set over the empty host.
-fn sync_call(rt: &impl Abort, alloc: Global, syncs: u64) -> u64 {
-    let (_, made) = run(rt, alloc, &[], &SET);
-    for call in 0..made.calls() {
-        let (_, host) = run_failing(rt, alloc, &SET, call);
-        if host.syncs() == syncs {
-            return call;
-        }
-    }
-    panic!(rt; "no such sync")
-}
-
-// At the third sync the gate alone is touched: a stop leaves the tree after the step where the gate is open then.
-#[test]
-fn a_setting_whose_third_sync_fails_says_nothing(rt: HostRuntime) {
-    let alloc = rt.alloc();
-    let call = sync_call(&rt, alloc, 3);
-    let (ending, host) = run_failing(&rt, alloc, &SET, call);
-    assert!(rt; ending == Ending::HostFault);
-    assert_eq!(rt; ending.status(), 3);
-    assert_eq!(rt; host.said(), b"".as_slice());
-    assert_eq!(rt; host.calls(), call.saturating_add(1));
-    assert_eq!(rt; made_before(&rt, alloc, &host, host.calls()), 2);
 }

@@ -1,0 +1,39 @@
+// Hosts in memory, and words.
+use std::alloc::Global;
+use std::process::Abort;
+use tl_file::{Bytes, FileBytes};
+use tl_memhost::MemHost;
+use tl_path::Path;
+
+pub(crate) fn path(rt: &impl Abort, alloc: Global, name: &str) -> Path {
+    Path::parse(alloc, name.as_bytes())
+        .ok()
+        .expect(rt, "a path")
+}
+
+// A host that holds these files.
+pub(crate) fn host(rt: &impl Abort, alloc: Global, files: &[(&str, &[u8])]) -> MemHost {
+    let mut made = Vec::new(alloc);
+    for (name, bytes) in files {
+        let added = made.push(FileBytes {
+            path: path(rt, alloc, name),
+            bytes: Bytes::new(bytes_of(rt, alloc, bytes)),
+        });
+        added.ok().expect(rt, "memory");
+    }
+    MemHost::new(alloc, made).ok().expect(rt, "a host")
+}
+
+pub(crate) fn bytes_of(rt: &impl Abort, alloc: Global, bytes: &[u8]) -> Vec<u8> {
+    Vec::from_slice(alloc, bytes).ok().expect(rt, "memory")
+}
+
+// These words, as bytes.
+pub(crate) fn words(rt: &impl Abort, alloc: Global, words: &[&str]) -> Vec<Vec<u8>> {
+    let mut all = Vec::new(alloc);
+    for word in words {
+        let added = all.push(bytes_of(rt, alloc, word.as_bytes()));
+        added.ok().expect(rt, "memory");
+    }
+    all
+}
