@@ -25,4 +25,4 @@ pub use path::Path;
 pub use path_ref::PathRef;
 pub use platform::{Platform, is_platform};
 pub use platforms::Platforms;
-pub use tag::Tag;
+pub use tag::{Tag, is_tag};

@@ -125,7 +125,8 @@ impl fmt::Debug for Tag {
     }
 }
 
-fn is_tag(text: &[u8]) -> bool
+/// Whether bytes are a tag. Takes no memory.
+pub fn is_tag(text: &[u8]) -> bool
     ensures { result ≡ is_tag text.now }
 {
     WordKind::Tag.is_met(text)
