@@ -1,5 +1,5 @@
 //! Each call on entries that takes memory.
-use std::alloc::Global;
+use std::alloc::{AllocError, Global};
 use std::test::Fail;
 use tl_entry::{Gathered, GatheredPaths, Paths};
 use tl_object::{
@@ -9,37 +9,99 @@ use tl_object::{
 use tl_path::Path;
 
 // An entry with every field, as it is written.
-const WHOLE: &[u8] =
-    b"name bar\ncategory TLCore\nrevision 15878\ncatalogue bar-ctan\nshortdesc Sets in a bar\nrelocated 1\nlongdesc First line.\nlongdesc Second line.\ndepend foo\nexecute addMap bar.map\npostaction shortcut\ncontainersize 2004\ncontainerchecksum ddaf35a193617abacc417349ae20413112e6fa4e89a97ea20a9eeee64b55d39a2192992a274fc1a836ba3c23a3feebbd454d4423643ce80e2a9ac94fa54ca49f\ndoccontainersize 376276\ndocfiles size=94\n d/README details=\"Read me\" language=\"en\"\n d/b\nsrccontainersize 18446744073709551615\nsrcfiles size=2\n s/bar.dtx\nrunfiles size=1\n b\n d/b\nbinfiles arch=linux size=2\n bin/linux/bar\n s/bar.dtx\nbinfiles arch=windows size=1\n a\ncatalogue-ctan /macros/bar\n";
+const WHOLE: &str = "name bar
+category TLCore
+revision 15878
+catalogue bar-ctan
+shortdesc Sets in a bar
+relocated 1
+longdesc First line.
+longdesc Second line.
+depend foo
+execute addMap bar.map
+postaction shortcut
+containersize 2004
+containerchecksum ddaf35a193617abacc417349ae20413112e6fa4e89a97ea20a9eeee64b55d39a2192992a274fc1a836ba3c23a3feebbd454d4423643ce80e2a9ac94fa54ca49f
+doccontainersize 376276
+docfiles size=94
+ d/README details=\"Read me\" language=\"en\"
+ d/b
+srccontainersize 18446744073709551615
+srcfiles size=2
+ s/bar.dtx
+runfiles size=1
+ b
+ d/b
+binfiles arch=linux size=2
+ bin/linux/bar
+ s/bar.dtx
+binfiles arch=windows size=1
+ a
+catalogue-ctan /macros/bar
+";
 
 // What is written of it without its containers.
-const LESS: &[u8] =
-    b"name bar\ncategory TLCore\nrevision 15878\ncatalogue bar-ctan\nshortdesc Sets in a bar\nrelocated 1\nlongdesc First line.\nlongdesc Second line.\ndepend foo\nexecute addMap bar.map\npostaction shortcut\ndocfiles size=94\n d/README details=\"Read me\" language=\"en\"\n d/b\nsrcfiles size=2\n s/bar.dtx\nrunfiles size=1\n b\n d/b\nbinfiles arch=linux size=2\n bin/linux/bar\n s/bar.dtx\nbinfiles arch=windows size=1\n a\ncatalogue-ctan /macros/bar\n";
+const LESS: &str = "name bar
+category TLCore
+revision 15878
+catalogue bar-ctan
+shortdesc Sets in a bar
+relocated 1
+longdesc First line.
+longdesc Second line.
+depend foo
+execute addMap bar.map
+postaction shortcut
+docfiles size=94
+ d/README details=\"Read me\" language=\"en\"
+ d/b
+srcfiles size=2
+ s/bar.dtx
+runfiles size=1
+ b
+ d/b
+binfiles arch=linux size=2
+ bin/linux/bar
+ s/bar.dtx
+binfiles arch=windows size=1
+ a
+catalogue-ctan /macros/bar
+";
+
+fn copied(alloc: Global, object: &Object) -> Result<Vec<u8>, AllocError> {
+    let mut text = Vec::new(alloc);
+    append_object(&mut text, &object.copy(alloc)?)?;
+    Ok(text)
+}
+
+fn less(alloc: Global, object: &Object) -> Result<Vec<u8>, AllocError> {
+    write_object(alloc, &object.less_containers(alloc)?)
+}
+
+// The paths of all its files, each with a space behind it.
+fn paths(alloc: Global, object: &Object) -> Result<String, AllocError> {
+    let mut all = String::new(alloc);
+    for path in &object.file_paths(alloc)? {
+        all.push_str(path.text())?;
+        all.push_str(" ")?;
+    }
+    Ok(all)
+}
+
+fn has_its_longdesc(alloc: Global, object: &Object) -> Result<bool, AllocError> {
+    let texts = copies(alloc, object.longdesc.as_slice())?;
+    Ok(matches!(texts.as_slice(), [_, second] if second.text() == "Second line."))
+}
 
 #[test]
 fn an_entry_with_every_field_goes_through_each_call(rt: HostRuntime) -> Result<(), Fail> {
     let alloc = rt.alloc();
-    let object = read_object(alloc, WHOLE)?;
-    assert!(rt; write_object(alloc, &object)?.as_slice() == WHOLE);
-    let mut text = Vec::from_slice(alloc, b"\n")?;
-    append_object(&mut text, &object.copy(alloc)?)?;
-    assert!(rt; text.as_slice().strip_prefix(b"\n") == Some(WHOLE));
-    let less = object.less_containers(alloc)?;
-    assert!(rt; write_object(alloc, &less)?.as_slice() == LESS);
-    let texts = copies(alloc, object.longdesc.as_slice())?;
-    assert!(rt; matches!(texts.as_slice(), [_, second] if second.text() == "Second line."));
-    Ok(())
-}
-
-#[test]
-fn the_paths_of_all_sections_come_once(rt: HostRuntime) -> Result<(), Fail> {
-    let object = read_object(rt.alloc(), WHOLE)?;
-    let mut found = String::new(rt.alloc());
-    for path in &object.file_paths(rt.alloc())? {
-        found.push_str(path.text())?;
-        found.push_str(" ")?;
-    }
-    assert!(rt; found.as_str() == "a b bin/linux/bar d/README d/b s/bar.dtx ");
+    let object = read_object(alloc, WHOLE.as_bytes())?;
+    assert!(rt; write_object(alloc, &object)?.as_slice() == WHOLE.as_bytes());
+    assert!(rt; copied(alloc, &object)?.as_slice() == WHOLE.as_bytes());
+    assert!(rt; less(alloc, &object)?.as_slice() == LESS.as_bytes());
+    assert!(rt; paths(alloc, &object)?.as_str() == "a b bin/linux/bar d/README d/b s/bar.dtx ");
+    assert!(rt; has_its_longdesc(alloc, &object)?);
     Ok(())
 }
 

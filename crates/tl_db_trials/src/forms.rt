@@ -1,4 +1,4 @@
-// The forms of what an entry's lines hold, each as its rule says.
+//! The forms of what an entry's lines hold, each as its rule says.
 
 fn is_low(byte: u8) -> bool {
     byte.is_ascii_lowercase() || byte.is_ascii_digit()

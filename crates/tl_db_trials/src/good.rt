@@ -1,3 +1,5 @@
+//! A good text and its canonical form.
+
 // A good text of two entries with every kind of line.
 static GOOD: [&[u8]; 50] = [
     b"",

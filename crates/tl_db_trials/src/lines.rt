@@ -1,3 +1,5 @@
+//! Lines to put in place of others.
+
 // Lines of which most are bad at most places, of every kind; the others are good at some.
 static LINES: [&[u8]; 131] = [
     b"",

@@ -1,3 +1,4 @@
+//! Lines at the limits of their length, among good ones.
 use crate::good::good_lines;
 use crate::tests::{agree, with_line};
 use std::alloc::{AllocError, Global};

@@ -1,4 +1,4 @@
-// The first bad line of a database's text, found slowly: each line is looked at with all the lines before it.
+//! The first bad line of a database's text, found slowly: each line is looked at with all the lines before it.
 use crate::forms::{
     bin_said, file, is_category, is_digest, is_fact_key, is_name, is_revision, number, size,
 };

@@ -1,3 +1,4 @@
+//! What the reader, the writer and the call for canonical texts make of a text, beside its definition.
 use crate::good::{canonical_lines, good_lines};
 use crate::lines::any_lines;
 use crate::slow::{Answer, definition};

@@ -1,4 +1,4 @@
-// The text that is written of the database of lines of which none is bad, made slowly.
+//! The text that is written of the database of lines of which none is bad, made slowly.
 use crate::forms::{Bin, FileLine, bin_said, file, size};
 use crate::slow::{Form, ROWS, Said, is_head, is_of, words};
 use std::alloc::{AllocError, Global};

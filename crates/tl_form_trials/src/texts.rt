@@ -1,5 +1,6 @@
 //! Lines, fields, quoted words, numbers and short texts.
 use std::alloc::{AllocError, Global};
+use std::process::Abort;
 use std::test::Fail;
 use tl_text::{Span, Text, decimal_u32, decimal_u64, fields, lines, quoted_words};
 
@@ -38,26 +39,26 @@ static SPANS: [[&[u8]; 4]; 5] = [
     ],
 ];
 
+fn has(
+    rt: &impl Abort,
+    alloc: Global,
+    text: &[u8],
+    spans: &[Span],
+    wanted: &[u8],
+) -> Result<(), AllocError> {
+    let found = barred(alloc, text, spans)?;
+    assert!(rt; found.as_slice() == wanted, "{text:?}");
+    Ok(())
+}
+
 #[test]
 fn lines_and_words_are_stretches_of_their_text(rt: HostRuntime) -> Result<(), Fail> {
     let alloc = rt.alloc();
     for [text, its_lines, its_fields, its_words] in &SPANS {
         assert!(rt; text.len() < 100);
-        let found = lines(alloc, text)?;
-        assert!(rt;
-            barred(alloc, text, found.as_slice())?.as_slice() == *its_lines,
-            "{text:?}"
-        );
-        let found = fields(alloc, text)?;
-        assert!(rt;
-            barred(alloc, text, found.as_slice())?.as_slice() == *its_fields,
-            "{text:?}"
-        );
-        let found = quoted_words(alloc, text)?;
-        assert!(rt;
-            barred(alloc, text, found.as_slice())?.as_slice() == *its_words,
-            "{text:?}"
-        );
+        has(&rt, alloc, text, &lines(alloc, text)?, its_lines)?;
+        has(&rt, alloc, text, &fields(alloc, text)?, its_fields)?;
+        has(&rt, alloc, text, &quoted_words(alloc, text)?, its_words)?;
     }
     Ok(())
 }
@@ -83,8 +84,8 @@ static NUMBERS: [(&[u8], Option<u64>, Option<u32>); 10] = [
 #[test]
 fn numbers_of_up_to_twenty_digits_are_read(rt: HostRuntime) {
     for (text, wide, narrow) in &NUMBERS {
-        assert!(rt; decimal_u64(text).ok() == *wide, "{text:?}");
-        assert!(rt; decimal_u32(text).ok() == *narrow, "{text:?}");
+        let is_read = decimal_u64(text).ok() == *wide && decimal_u32(text).ok() == *narrow;
+        assert!(rt; is_read, "{text:?}");
     }
 }
 

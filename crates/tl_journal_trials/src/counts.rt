@@ -1,4 +1,4 @@
-// How many calls of the host a large file takes.
+//! How many calls of the host a large file takes.
 use crate::tests::{host, in_pieces, recovered, target};
 use std::test::Fail;
 

@@ -1,4 +1,4 @@
-// Records of one path, of which the later decides.
+//! Records of one path, of which the later decides.
 use crate::plain::{Names, Tree};
 use crate::tests::{host, recovered, target};
 use std::alloc::Global;

@@ -1,4 +1,4 @@
-// What a volume in memory stands for, read plainly and slowly. The trees that are compared have the names a, b and c alone.
+//! What a volume in memory stands for, read plainly and slowly. The trees that are compared have the names a, b and c alone.
 use crate::tests::path;
 use std::alloc::Global;
 use std::process::Abort;

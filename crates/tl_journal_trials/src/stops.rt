@@ -1,4 +1,4 @@
-// A change that is stopped, or that fails, at each of its calls.
+//! A change that is stopped, or that fails, at each of its calls.
 use crate::plain::{Names, Tree, carried_out};
 use crate::tests::{bad, host, target};
 use std::alloc::Global;

@@ -1,3 +1,4 @@
+//! Recovery, and changes made one after another.
 ghost use Rattle.std.specs.Prelude.{◌≡◌, true};
 ghost use Rattle.tl_journal_text.specs.Records.{is_outside};
 

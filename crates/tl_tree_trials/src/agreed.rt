@@ -1,4 +1,4 @@
-// Changes whose conditions are seen to hold when they are made.
+//! Changes whose conditions are seen to hold when they are made.
 ghost use Rattle.std.specs.Prelude.{◌≡◌, ◌≢◌, List, false, IfOk};
 ghost use Rattle.tl_path.specs.Reserved.{is_reserved};
 ghost use Rattle.tl_entry.specs.declared.object.Object.{Object};

@@ -1,3 +1,4 @@
+//! A step with each kind of part, and the reading calls of a tree.
 use crate::agreed::{Parts, each_kind};
 use std::alloc::Global;
 use std::process::Abort;
