@@ -1,5 +1,5 @@
 // What each whole field of a frame tells, and what comes behind it.
-ghost use Rattle.std.specs.Prelude.{◌≡◌, List, ℕ, length, Some, IfOk, OnErr};
+ghost use Rattle.std.specs.Prelude.{◌≡◌, ◌≤◌, List, [], ℕ, length, Some, IfOk, OnErr};
 ghost use Rattle.std.specs.Int.{w16, w32, w64, from_be_bytes};
 ghost use Rattle.tl_path.specs.Path.{IsPath};
 ghost use Rattle.tl_frame.specs.declared.event.FrameEvent.{FrameEvent};
@@ -158,7 +158,7 @@ fn is_later_path(last: &[u8], name: &[u8]) -> bool
     ensures { result ≡ is_later_path last.now name.now }
 {
     match PathRef::check(name) {
-        Ok(_) => last < name,
+        Ok(_) => last.cmp(name).is_lt(),
         Err(_) => false,
     }
 }
