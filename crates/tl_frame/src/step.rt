@@ -1,5 +1,5 @@
 // How a reader of a frame takes the bytes of a piece.
-ghost use Rattle.std.specs.Prelude.{◌≡◌, ◌<◌, ℕ, List, length, false, None, Some, IfOk, MatchResult, OnErr};
+ghost use Rattle.std.specs.Prelude.{◌≡◌, ◌<◌, ℕ, List, [], length, false, None, Some, IfOk, OnErr};
 ghost use Rattle.tl_frame.specs.States.{IsInForm, IsAtStage, Moves, Takes, ReaderState, reader_at, is_spent_stage, wanted_by};
 
 use crate::event::FrameEvent;
@@ -29,7 +29,7 @@ pub fn gather<'p>(
     let missing = wanted - kept.len();
     if piece.len() < missing {
         kept.extend_from_slice(piece)?;
-        return Ok((waiting, &piece[piece.len()..]));
+        return Ok((waiting, &[]));
     }
     let (front, rest) = piece.split_at(missing);
     if kept.is_empty() {
@@ -58,8 +58,8 @@ pub fn pass<'p>(
 {
     match waiting.stage {
         Stage::Content(left) => content(waiting, left, piece, out),
-        Stage::Ended => Ok((waiting.at(Stage::Faulty), &piece[piece.len()..])),
-        _ => Ok((waiting, &piece[piece.len()..])),
+        Stage::Ended => Ok((waiting.at(Stage::Faulty), &[])),
+        _ => Ok((waiting, &[])),
     }
 }
 
