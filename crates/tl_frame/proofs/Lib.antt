@@ -1,3 +1,6 @@
+pub mod FeedLaws
 pub mod FieldLaws
+pub mod FrameLaws
 pub mod MoveLaws
+pub mod PathLaws
 pub mod StateLaws

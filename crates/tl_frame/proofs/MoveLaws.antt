@@ -2,11 +2,8 @@
 use Rattle.std.proofs.Common.{◌≡◌, ◌<◌, ◌≤◌, ◌+◌, ◌-◌, ◌^◌, ℕ, zero, suc, min, Bool, true, false, cond, List, [], ◌∷◌, ◌++◌, length, refl, sym, ◌∙◌, ap, subst, arith, eqb, Option, Some, None, ◌⊎◌, inl, inr, ◌&&◌}
 use Rattle.std.specs.Prelude.{bytes_eq}
 use Rattle.std.specs.Int.{w16, w32, w64, from_be_bytes}
-use Rattle.std.specs.Option.{is_none}
 use Rattle.std.proofs.lemmas.List.{append-nil}
-use Rattle.std.proofs.lemmas.Bool.{and_parts}
-use Rattle.tl_path.specs.declared.fault.PathFault.{PathFault}
-use Rattle.tl_path.specs.Path.{IsPath, path_fault}
+use Rattle.tl_path.specs.Path.{IsPath}
 use Rattle.tl_frame.specs.declared.event.FrameEvent.{FrameEvent}
 use Rattle.tl_frame.specs.declared.event.FrameEvent.TheVariants as event
 use Rattle.tl_frame.specs.declared.stage.Waiting.{Waiting}
@@ -16,6 +13,7 @@ use Rattle.tl_frame.specs.Frames.{frame_magic, frame_mark}
 use Rattle.tl_frame.specs.Scan.{Token, EntryText as text_token, FileHead, FileByte, FrameEnd, AtEnd, InField, AtFault, Scan, stop, telling, nothing_from, mark_from, bytes_from, size_from, is_later_path, path_from, files_from, count_from, entry_from, entry_size_from, magic_from}
 use Rattle.tl_frame.specs.Events.{AddsEvents, HasBytes, event_tokens}
 use Rattle.tl_frame.specs.States.{ReaderState, reader_at, at_field, told_place, rest_by, rest_from, is_spent_stage, IsInForm, GoesOn, Moves, before_files}
+use Rattle.tl_frame.proofs.PathLaws.{later_is_path}
 use Rattle.tl_frame.proofs.FieldLaws.{field_whole, magic_is, entry_size_is, entry_is, count_is, files_is, no_files_is, path_fits, path_wrong, path_empty, size_is, mark_is, nothing_is, bytes_done, bytes_whole, bytes_part}
 
 pub place_behind : (place here size : ℕ) → place ≡ told_place here → min (place + size) (2 ^ 64 - 1) ≡ told_place (here + size)
@@ -158,14 +156,6 @@ path_rest : (w : Waiting) (last field : List ℕ) → w.stage ≡ PathText (leng
 path_rest w last field stage few here more =
     rest_is w (PathText (length field)) stage last here (field ++ more) ∙ path_fits (length field) last here (field ++ more) (files_from w.files) few
     ∙ field_whole (length field) here field more _ refl
-
-none_is : (o : Option PathFault) → is_none o ≡ true → o ≡ None
-none_is None e = refl
-none_is (Some x) e = absurd cc
-
-pub later_is_path : (last name : List ℕ) → is_later_path last name ≡ true → IsPath name
-unfolding is_later_path
-later_is_path last name later = none_is (path_fault name) (and_parts _ _ later).0
 
 pub moves_path : (w new : Waiting) (last last' field : List ℕ) (events : List FrameEvent) → w.stage ≡ PathText (length field) → length field ≤ 1024 → is_later_path last field ≡ true → last' ≡ field
     → new ≡ behind_at w (length field) Size → Moves (at_field w last) (at_field new last') field events events

@@ -7,7 +7,7 @@ use Rattle.tl_frame.specs.declared.error.CheckError.{CheckError}
 use Rattle.tl_frame.specs.declared.error.CheckError.TheVariants.{SizeDiffers, DigestDiffers}
 use Rattle.tl_frame.specs.Scan.{ScanEnd, AtEnd, InField, AtFault, frame_fault, ending_of, place_in}
 use Rattle.tl_frame.specs.declared.stage.Stage.{Stage}
-use Rattle.tl_frame.specs.declared.stage.Stage.TheVariants.{Faulty}
+use Rattle.tl_frame.specs.declared.stage.Stage.TheVariants.{Ended, Faulty, Spent}
 use Rattle.tl_frame.specs.States.{ReaderState, told_place}
 
 -- the bytes' first field that is cut or wrong; want of memory has no cause in them
@@ -40,6 +40,12 @@ abbrev pub finish_by : ScanEnd → Result Unit FrameError
 finish_by AtEnd = Ok tt
 finish_by (InField place) = Err (BadFrame (told_place place))
 finish_by (AtFault place) = Err (BadFrame (told_place place))
+
+-- the answer of a reader at a stage, as to whether a frame has ended
+abbrev pub finish_at : Stage → ℕ → Result Unit FrameError
+finish_at Spent place = Err NoMemory
+finish_at Ended place = Ok tt
+finish_at _ place = Err (BadFrame place)
 
 -- the answer of a reader to which these bytes have come, as to whether they are a frame
 abbrev pub finish_answer : Bool → List ℕ → Result Unit FrameError

@@ -79,25 +79,13 @@ impl FrameReader {
         ensures answer { (fed : List ℕ) → IsFed self.now fed → result ≡ finish_answer (is_spent self.now) fed }
         ensures whole { OnOk result ((fed : List ℕ) → IsFed self.now fed → IsWhole fed) }
     {
-        match self.waiting.stage {
-            Stage::Spent => Err(FrameError::NoMemory),
-            Stage::Ended => Ok(()),
-            _ => Err(FrameError::BadFrame {
-                at: self.waiting.place,
-            }),
-        }
+        self.waiting.ending()
     }
 
     fn fault(&self) -> Result<(), FrameError>
-        ensures answer { result ≡ fault_by self.now }
-        ensures form { IsInForm self.now.waiting self.now.kept self.now.last }
+        ensures { result ≡ fault_by self.now }
     {
-        match self.waiting.stage {
-            Stage::Faulty => Err(FrameError::BadFrame {
-                at: self.waiting.place,
-            }),
-            _ => Ok(()),
-        }
+        self.waiting.fault()
     }
 
     fn is_spent(&self) -> bool
@@ -125,18 +113,18 @@ impl FrameReader {
         ensures less { IfOk result (λ rest. length rest.now < length piece.now) }
         ensures same { OnErr result (out.new.items ≡ out.old.items) }
     {
-        let (waiting, rest) = match self.waiting.stage.wanted() {
-            Some(wanted) => gather(
-                self.waiting,
-                &mut self.kept,
-                &mut self.last,
-                wanted,
-                piece,
-                out,
-            )?,
-            None => pass(self.waiting, piece, out)?,
-        };
-        self.waiting = waiting;
-        Ok(rest)
+        match self.waiting.stage.wanted() {
+            Some(wanted) => {
+                let (kept, last) = (&mut self.kept, &mut self.last);
+                let (waiting, rest) = gather(self.waiting, kept, last, wanted, piece, out)?;
+                self.waiting = waiting;
+                Ok(rest)
+            }
+            None => {
+                let (waiting, rest) = pass(self.waiting, piece, out)?;
+                self.waiting = waiting;
+                Ok(rest)
+            }
+        }
     }
 }

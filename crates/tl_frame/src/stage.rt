@@ -1,4 +1,5 @@
 // What a reader of a frame waits for.
+use crate::error::FrameError;
 
 /// The field that a reader waits for, or why it waits for none.
 #[derive(Clone, Copy)]
@@ -65,6 +66,7 @@ impl Stage {
 impl Waiting {
     ghost use Rattle.std.specs.Prelude.{◌≡◌, ◌+◌, min, ◌^◌, ◌-◌};
     ghost use Rattle.tl_frame.specs.States.{before_files};
+    ghost use Rattle.tl_frame.specs.Answers.{fault_at, finish_at};
 
     /// The same place, with another stage.
     pub fn at(self, stage: Stage) -> Waiting
@@ -109,6 +111,27 @@ impl Waiting {
                 files: files - 1,
                 size: 0,
             }
+        }
+    }
+
+    /// A field that is wrong.
+    pub fn fault(self) -> Result<(), FrameError>
+        ensures { result ≡ fault_at self.stage self.place }
+    {
+        match self.stage {
+            Stage::Faulty => Err(FrameError::BadFrame { at: self.place }),
+            _ => Ok(()),
+        }
+    }
+
+    /// A field that is wrong or isn't whole.
+    pub fn ending(self) -> Result<(), FrameError>
+        ensures { result ≡ finish_at self.stage self.place }
+    {
+        match self.stage {
+            Stage::Spent => Err(FrameError::NoMemory),
+            Stage::Ended => Ok(()),
+            _ => Err(FrameError::BadFrame { at: self.place }),
         }
     }
 }
