@@ -23,7 +23,7 @@ mark_told : (from : ℕ) (more : List ℕ) → mark_from from (frame_mark ++ mor
 mark_told from more = mark_is from (frame_mark ++ more) ∙ field_whole 8 from frame_mark more _ refl
 
 -- a file, and what stands behind it
-file_parts : (f : FileBytes) (rest : List ℕ) → framed_file f ++ rest ≡ to_be_bytes w16 (length f.path) ++ (f.path ++ (to_be_bytes w64 (length f.bytes) ++ (f.bytes ++ rest)))
+pub file_parts : (f : FileBytes) (rest : List ℕ) → framed_file f ++ rest ≡ to_be_bytes w16 (length f.path) ++ (f.path ++ (to_be_bytes w64 (length f.bytes) ++ (f.bytes ++ rest)))
 unfolding framed_file
 file_parts f rest =
     let size = to_be_bytes w64 (length f.bytes) in

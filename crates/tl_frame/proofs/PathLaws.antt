@@ -1,13 +1,12 @@
 -- The paths of a frame.
 use Rattle.std.proofs.Common.{◌≡◌, ◌<◌, ◌≤◌, ℕ, Bool, true, false, cond, ◌&&◌, List, [], ◌∷◌, length, Option, Some, None, refl, sym, ◌∙◌, ap, arith, eqb}
-use Rattle.std.specs.Prelude.{nat_lt}
 use Rattle.std.specs.Option.{is_none}
 use Rattle.std.specs.Ordering.{nat_cmp, is_lt}
 use Rattle.std.specs.Cmp.Lexicographic.{slice_cmp}
-use Rattle.std.proofs.lemmas.Bool.{and_parts, and_from, ltb-false}
+use Rattle.std.proofs.lemmas.Bool.{and_parts, and_from}
 use Rattle.tl_path.specs.declared.fault.PathFault.{PathFault}
-use Rattle.tl_path.specs.declared.fault.PathKind.TheVariants.{Empty, Long}
-use Rattle.tl_path.specs.Path.{IsPath, path_fault, size_fault, or_else, fault}
+use Rattle.tl_path.specs.Path.{IsPath, path_fault, size_fault, or_else}
+use Rattle.tl_path.proofs.Form.{size-small}
 use Rattle.tl_frame.specs.Scan.{is_later_path}
 
 else_none : (a b : Option PathFault) → or_else a b ≡ None → a ≡ None
@@ -16,12 +15,7 @@ else_none (Some x) b e = absurd cc
 
 -- a path has at most 1,024 bytes
 pub path_short : (name : List ℕ) → IsPath name → length name ≤ 1024
-path_short name path = by (eqb (length name) 0) (nat_lt 1024 (length name)) refl (else_none (size_fault name) _ path)
-  where
-    by : (a b : Bool) → nat_lt 1024 (length name) ≡ b → cond a (Some (fault Empty 0)) (cond b (Some (fault Long 1024)) None) ≡ None → length name ≤ 1024
-    by true b is e = absurd cc
-    by false true is e = absurd cc
-    by false false is e = ltb-false _ _ is
+path_short name path = size-small name (else_none (size_fault name) _ path)
 
 -- and it comes behind no bytes
 pub path_some : (name : List ℕ) → IsPath name → is_lt (slice_cmp nat_cmp [] name) ≡ true
