@@ -10,6 +10,8 @@ use Rattle.tl_frame.specs.declared.stage.Waiting.{Waiting}
 use Rattle.tl_frame.specs.declared.stage.Stage.{Stage}
 use Rattle.tl_frame.specs.declared.stage.Stage.TheVariants.{Magic, EntrySize, EntryText, Count, PathSize, PathText, Size, Content, Mark, Ended, Faulty, Spent}
 use Rattle.tl_frame.specs.Scan.{Token, ScanEnd, AtEnd, InField, AtFault, Scan, stop, telling, scan, tokens_of, ending_of, AreBytes, files_from}
+use Rattle.std.specs.List.{flat_map}
+use Rattle.tl_frame.specs.Events.{event_tokens}
 use Rattle.tl_frame.specs.States.{ReaderState, reader_at, told_place, wanted_by, rest_by, rest_from, ending_by, is_spent, is_spent_stage, IsKept, IsAtStage, IsInForm, Leads, IsFed, Moves, Takes, Tells}
 use Rattle.tl_frame.specs.Answers.{feed_by, feed_answer, fault_at, fault_by, finish_at, finish_by, finish_answer}
 use Rattle.tl_frame.proofs.FieldLaws.{field_cut, magic_is, entry_size_is, entry_is, count_is, files_is, path_fits, size_is, mark_is, nothing_is, bytes_none}
@@ -197,3 +199,13 @@ ends_at false fed is = (refl, by (ending_of fed) is)
     by AtEnd is = refl
     by (InField place) is = absurd cc
     by (AtFault place) is = absurd cc
+
+-- all that the events of one piece tell
+pub told_whole : (text : List ℕ) (before after : List FrameEvent) (spent : Bool) → before ≡ [] → spent ≡ false → Tells [] text before after spent → flat_map event_tokens after ≡ tokens_of text
+told_whole text before after spent none live tells =
+    let all : tells.front ≡ text = sym (append-nil tells.front) ∙ ap (λ (l : List ℕ). tells.front ++ l) (sym (tells.whole live)) ∙ sym tells.split in
+    ap (λ (l : List FrameEvent). flat_map event_tokens l) (tells.adds.same ∙ ap (λ (l : List FrameEvent). l ++ tells.adds.given) none)
+    ∙ tells.adds.told
+    ∙ ap (λ (ts : List Token). ts ++ tells.tokens) (sym (ap (λ (r : Scan). r.tokens) scan_none))
+    ∙ sym tells.told
+    ∙ ap tokens_of all

@@ -129,3 +129,31 @@ frame_alone text more entry others fs gs is longer =
     by : (b : Bool) → eqb (length more) 0 ≡ b → cond b AtEnd (AtFault (frame_told entry fs more is.have).0) ≡ AtEnd → more ≡ []
     by true same ending = nil_from_length more (eqb-true (length more) 0 same)
     by false same ending = absurd cc
+
+-- ---- how a frame is written
+
+-- the four fields of a file behind one another
+pub file_pushed : (f : FileBytes) (out one two three four : List ℕ) → one ≡ out ++ to_be_bytes w16 (length f.path) → two ≡ one ++ f.path → three ≡ two ++ to_be_bytes w64 (length f.bytes) → four ≡ three ++ f.bytes
+    → four ≡ out ++ framed_file f
+unfolding framed_file
+file_pushed f out one two three four a b c d =
+    let number = to_be_bytes w16 (length f.path) in
+    let size = to_be_bytes w64 (length f.bytes) in
+    d ∙ ap (λ (l : List ℕ). l ++ f.bytes) (c ∙ ap (λ (l : List ℕ). l ++ size) (b ∙ ap (λ (l : List ℕ). l ++ f.path) a))
+    ∙ append_assoc ((out ++ number) ++ f.path) size f.bytes
+    ∙ append_assoc (out ++ number) f.path (size ++ f.bytes)
+    ∙ append_assoc out number (f.path ++ (size ++ f.bytes))
+
+-- the fields of a frame behind one another
+pub frame_pushed : (entry : List ℕ) (fs : List FileBytes) (none one two three four five six : List ℕ) → none ≡ [] → one ≡ none ++ frame_magic → two ≡ one ++ to_be_bytes w32 (length entry) → three ≡ two ++ entry
+    → four ≡ three ++ to_be_bytes w32 (length fs) → five ≡ four ++ flat_map framed_file fs → six ≡ five ++ frame_mark → six ≡ frame entry fs
+unfolding frame
+frame_pushed entry fs none one two three four five six z a b c d e f =
+    let size = to_be_bytes w32 (length entry) in
+    let count = to_be_bytes w32 (length fs) in
+    let files = flat_map framed_file fs in
+    f ∙ ap (λ (l : List ℕ). l ++ frame_mark) (e ∙ ap (λ (l : List ℕ). l ++ files) (d ∙ ap (λ (l : List ℕ). l ++ count) (c ∙ ap (λ (l : List ℕ). l ++ entry) (b ∙ ap (λ (l : List ℕ). l ++ size) (a ∙ ap (λ (l : List ℕ). l ++ frame_magic) z)))))
+    ∙ append_assoc ((((frame_magic ++ size) ++ entry) ++ count)) files frame_mark
+    ∙ append_assoc (((frame_magic ++ size) ++ entry)) count (files ++ frame_mark)
+    ∙ append_assoc (frame_magic ++ size) entry (count ++ (files ++ frame_mark))
+    ∙ append_assoc frame_magic size (entry ++ (count ++ (files ++ frame_mark)))

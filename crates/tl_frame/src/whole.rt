@@ -1,11 +1,12 @@
 // A frame in one list of bytes.
-ghost use Rattle.std.specs.Prelude.{◌≡◌, ◌<◌, ◌^◌, ◌++◌, ℕ, true, List, [], length, None, IfOk, OnOk, MatchResult};
+ghost use Rattle.std.specs.Prelude.{◌≡◌, ◌<◌, ◌^◌, ◌++◌, ℕ, true, List, [], length, None, IfOk, OnOk, IfErr, MatchResult};
 ghost use Rattle.std.specs.List.{flat_map};
 ghost use Rattle.tl_path.specs.Path.{IsPath};
 ghost use Rattle.tl_file.specs.declared.file.FileBytes.{FileBytes};
 ghost use Rattle.tl_frame.specs.declared.error.FrameError.TheVariants.{NoMemory};
 ghost use Rattle.tl_frame.specs.Frames.{IsFrame, FitsFrame, framed_file, paths_rise};
-ghost use Rattle.tl_frame.specs.Scan.{frame_fault};
+ghost use Rattle.tl_frame.specs.Scan.{frame_fault, tokens_of};
+ghost use Rattle.tl_frame.specs.States.{IsWhole};
 ghost use Rattle.tl_frame.specs.Events.{event_tokens, with_tokens};
 ghost use Rattle.tl_frame.specs.Answers.{IsFrameErrorOf};
 
@@ -37,11 +38,21 @@ pub fn read_frame(alloc: Global, bytes: &[u8]) -> Result<Frame, FrameError>
     // No frame begins another one.
     ensures alone { OnOk result ((more entry : List ℕ) (files : List FileBytes) → IsFrame (bytes.now ++ more) entry files → more ≡ []) }
 {
+    let events = events_of(alloc, bytes)?;
+    Ok(frame_of(alloc, events)?)
+}
+
+// What the bytes of a frame tell.
+fn events_of(alloc: Global, bytes: &[u8]) -> Result<Vec<FrameEvent>, FrameError>
+    ensures told { IfOk result (λ events. flat_map event_tokens events.items ≡ tokens_of bytes.now) }
+    ensures whole { OnOk result (IsWhole bytes.now) }
+    ensures fault { IfErr result (IsFrameErrorOf bytes.now) }
+{
     let mut events = Vec::new(alloc);
     let mut reader = FrameReader::new(alloc);
     reader.feed(bytes, &mut events)?;
     reader.finish()?;
-    Ok(frame_of(alloc, events)?)
+    Ok(events)
 }
 
 // The frame that events tell.
