@@ -1,0 +1,9 @@
+pub mod FeedLaws
+pub mod FieldLaws
+pub mod FrameLaws
+pub mod GatherLaws
+pub mod MoveLaws
+pub mod PathLaws
+pub mod PlaceLaws
+pub mod ReadLaws
+pub mod StateLaws

@@ -1,0 +1,5 @@
+pub mod Answers
+pub mod Events
+pub mod Frames
+pub mod Scan
+pub mod States
