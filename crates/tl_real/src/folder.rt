@@ -387,7 +387,7 @@ fn leads_to_folder(rt: &impl Files, path: &str) -> bool {
     }
 }
 
-fn fill(file: &File, from: u64, into: &mut [u8]) -> io::Result<usize>
+pub(crate) fn fill(file: &File, from: u64, into: &mut [u8]) -> io::Result<usize>
     ensures { IfOk result (λ count. count ≤ length into.new) }
 {
     let mut done = 0;
