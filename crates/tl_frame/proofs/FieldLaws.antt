@@ -1,10 +1,10 @@
 -- What is made of a field that is whole, and of one that is cut.
-use Rattle.std.proofs.Common.{◌≡◌, ◌<◌, ◌≤◌, ◌+◌, ◌-◌, ℕ, zero, suc, Bool, true, false, cond, ◌&&◌, List, [], ◌∷◌, ◌++◌, length, take, drop, refl, sym, ◌∙◌, ap, arith, eqb, length-append, inl, inr}
+use Rattle.std.proofs.Common.{◌≡◌, ◌<◌, ◌≤◌, ◌+◌, ◌-◌, ℕ, zero, suc, false, cond, List, [], ◌∷◌, ◌++◌, length, take, drop, refl, sym, ◌∙◌, ap, arith, eqb, length-append, inl, inr}
 use Rattle.std.specs.Prelude.{nat_lt, map, bytes_eq}
 use Rattle.std.specs.Int.{w16, w32, w64, from_be_bytes}
-use Rattle.std.proofs.lemmas.Bool.{cases_lt, ltb-false, lt-ltb, le-ltb, eq-eqb, ne_eqb}
+use Rattle.std.proofs.lemmas.Bool.{cases_lt, lt-ltb, le-ltb}
 use Rattle.std.proofs.Math.Seq.{take-append-add, drop-append-add}
-use Rattle.std.proofs.lemmas.List.{take_at, drop_at, take_all, drop_all, append-nil, append_assoc, map-append, length-take}
+use Rattle.std.proofs.lemmas.List.{take_at, drop_at, append_assoc, map-append}
 use Rattle.tl_frame.specs.Frames.{frame_magic, frame_mark}
 use Rattle.tl_frame.specs.Scan.{Token, EntryText, FileHead, FileByte, FrameEnd, AtEnd, InField, AtFault, Scan, stop, telling, field_from, nothing_from, mark_from, bytes_from, size_from, is_later_path, path_from, files_from, count_from, entry_from, entry_size_from, magic_from}
 

@@ -1,19 +1,16 @@
 -- What a frame tells.
-use Rattle.std.proofs.Common.{◌≡◌, ◌<◌, ◌≤◌, ◌+◌, ◌-◌, ◌^◌, ℕ, zero, suc, Bool, true, false, cond, ◌&&◌, List, [], ◌∷◌, ◌++◌, length, Option, Some, None, refl, sym, ◌∙◌, ap, subst, arith, append_assoc, length-append, eqb}
-use Rattle.std.specs.Prelude.{map, bytes_eq, fold}
+use Rattle.std.proofs.Common.{◌≡◌, ◌<◌, ◌+◌, ◌^◌, ℕ, suc, Bool, true, false, cond, List, [], ◌∷◌, ◌++◌, length, None, refl, sym, ◌∙◌, ap, arith, append_assoc, eqb}
+use Rattle.std.specs.Prelude.{map}
 use Rattle.std.specs.List.{AllByRecursion, flat_map}
-use Rattle.std.specs.Int.{w16, w32, w64, to_be_bytes, from_be_bytes}
+use Rattle.std.specs.Int.{w16, w32, w64, to_be_bytes}
 use Rattle.std.specs.Ordering.{nat_cmp, is_lt}
-use Rattle.std.specs.Option.{is_none}
 use Rattle.std.specs.Cmp.Lexicographic.{slice_cmp}
 use Rattle.std.proofs.lemmas.List.{append-nil, nil_from_length}
 use Rattle.std.proofs.lemmas.Bool.{and_parts, and_from, eqb-true}
 use Rattle.std.proofs.lemmas.Nat.{from_be_bytes-to_be_bytes_2, from_be_bytes-to_be_bytes_4, from_be_bytes-to_be_bytes_8}
-use Rattle.tl_path.specs.declared.fault.PathFault.{PathFault}
-use Rattle.tl_path.specs.Path.{IsPath, path_fault}
 use Rattle.tl_file.specs.declared.file.FileBytes.{FileBytes}
 use Rattle.tl_frame.specs.Frames.{frame_magic, frame_mark, framed_file, frame, paths_rise, paths_rise_behind, FitsFrame, HaveFrame, IsFrame}
-use Rattle.tl_frame.specs.Scan.{Token, EntryText, FileHead, FileByte, FrameEnd, AtEnd, InField, AtFault, Scan, stop, telling, scan, tokens_of, ending_of, frame_fault, place_in, file_tokens, frame_tokens, nothing_from, mark_from, bytes_from, size_from, path_from, files_from, entry_from, magic_from}
+use Rattle.tl_frame.specs.Scan.{Token, EntryText, FileHead, FileByte, FrameEnd, AtEnd, AtFault, Scan, stop, telling, scan, frame_fault, place_in, file_tokens, frame_tokens, nothing_from, mark_from, bytes_from, size_from, path_from, files_from, entry_from, magic_from}
 use Rattle.tl_frame.proofs.FieldLaws.{field_whole, bytes_whole, magic_is, entry_size_is, entry_is, count_is, files_is, no_files_is, path_fits, size_is, mark_is, nothing_is}
 use Rattle.tl_frame.proofs.StateLaws.{telling_twice}
 use Rattle.tl_frame.proofs.PathLaws.{path_short, path_some, path_later}
@@ -60,12 +57,14 @@ files_told [] more last from fit rise = (from + 8, no_files_is last from (frame_
 files_told (f ∷ fs) more last from fit rise =
     let parts = and_parts (is_lt (slice_cmp nat_cmp last f.path)) (paths_rise_behind f.path fs) rise in
     let rest = flat_map framed_file fs ++ (frame_mark ++ more) in
-    let others = files_told fs more f.path (from + 2 + length f.path + 8 + length f.bytes) fit.1 parts.1 in
-    (others.0, ap (λ (l : List ℕ). files_from (suc (length fs)) last from l) (append_assoc (framed_file f) (flat_map framed_file fs) (frame_mark ++ more))
-        ∙ file_told f rest (length fs) last from fit.0 parts.0
-        ∙ ap (λ (s : Scan). telling (file_tokens f) s) others.1
-        ∙ telling_twice (file_tokens f) (flat_map file_tokens fs ++ FrameEnd ∷ []) (nothing_from others.0 more)
-        ∙ ap (λ (ts : List Token). telling ts (nothing_from others.0 more)) (sym (append_assoc (file_tokens f) (flat_map file_tokens fs) (FrameEnd ∷ []))))
+    let others = files_told fs more f.path (from + 2 + length f.path + 8 + length f.bytes) fit.1 parts.1 in (
+      others.0,
+      ap (λ (l : List ℕ). files_from (suc (length fs)) last from l) (append_assoc (framed_file f) (flat_map framed_file fs) (frame_mark ++ more))
+          ∙ file_told f rest (length fs) last from fit.0 parts.0
+          ∙ ap (λ (s : Scan). telling (file_tokens f) s) others.1
+          ∙ telling_twice (file_tokens f) (flat_map file_tokens fs ++ FrameEnd ∷ []) (nothing_from others.0 more)
+          ∙ ap (λ (ts : List Token). telling ts (nothing_from others.0 more)) (sym (append_assoc (file_tokens f) (flat_map file_tokens fs) (FrameEnd ∷ []))),
+    )
 
 rise_behind : (fs : List FileBytes) → AllByRecursion FitsFrame fs → paths_rise fs ≡ true → paths_rise_behind [] fs ≡ true
 rise_behind [] fit rise = refl
@@ -93,21 +92,23 @@ unfolding scan
 frame_told entry fs more have =
     let behind = flat_map framed_file fs ++ (frame_mark ++ more) in
     let count = to_be_bytes w32 (length fs) in
-    let files = files_told fs more [] (8 + 4 + length entry + 4) have.each (rise_behind fs have.each have.rising) in
-    (files.0, ap (λ (l : List ℕ). magic_from 0 l) (frame_parts entry fs more)
-        ∙ magic_is 0 _
-        ∙ field_whole 8 0 frame_magic (to_be_bytes w32 (length entry) ++ (entry ++ (count ++ behind))) _ refl
-        ∙ entry_size_is 8 _
-        ∙ field_whole 4 8 (to_be_bytes w32 (length entry)) (entry ++ (count ++ behind)) _ refl
-        ∙ ap (λ (n : ℕ). entry_from n 12 (entry ++ (count ++ behind))) (from_be_bytes-to_be_bytes_4 (length entry) have.entry_fits)
-        ∙ entry_is (length entry) 12 _
-        ∙ field_whole (length entry) 12 entry (count ++ behind) _ refl
-        ∙ ap (λ (s : Scan). telling (EntryText entry ∷ []) s) (
-        count_is (12 + length entry) _
-        ∙ field_whole 4 (12 + length entry) count behind _ refl
-        ∙ ap (λ (n : ℕ). files_from n [] (12 + length entry + 4) behind) (from_be_bytes-to_be_bytes_4 (length fs) have.count_fits)
-        ∙ files.1
-        ))
+    let files = files_told fs more [] (8 + 4 + length entry + 4) have.each (rise_behind fs have.each have.rising) in (
+      files.0,
+      ap (λ (l : List ℕ). magic_from 0 l) (frame_parts entry fs more)
+          ∙ magic_is 0 _
+          ∙ field_whole 8 0 frame_magic (to_be_bytes w32 (length entry) ++ (entry ++ (count ++ behind))) _ refl
+          ∙ entry_size_is 8 _
+          ∙ field_whole 4 8 (to_be_bytes w32 (length entry)) (entry ++ (count ++ behind)) _ refl
+          ∙ ap (λ (n : ℕ). entry_from n 12 (entry ++ (count ++ behind))) (from_be_bytes-to_be_bytes_4 (length entry) have.entry_fits)
+          ∙ entry_is (length entry) 12 _
+          ∙ field_whole (length entry) 12 entry (count ++ behind) _ refl
+          ∙ ap (λ (s : Scan). telling (EntryText entry ∷ []) s) (
+          count_is (12 + length entry) _
+          ∙ field_whole 4 (12 + length entry) count behind _ refl
+          ∙ ap (λ (n : ℕ). files_from n [] (12 + length entry + 4) behind) (from_be_bytes-to_be_bytes_4 (length fs) have.count_fits)
+          ∙ files.1
+          ),
+    )
 
 pub frame_scan : (text entry : List ℕ) (fs : List FileBytes) → IsFrame text entry fs → scan text ≡ record { tokens = frame_tokens entry fs; ending = AtEnd }
 frame_scan text entry fs is =

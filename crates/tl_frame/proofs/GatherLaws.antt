@@ -1,17 +1,15 @@
 -- The entry's text and the files that tokens tell.
-use Rattle.std.proofs.Common.{◌≡◌, ℕ, List, [], ◌∷◌, ◌++◌, length, refl, sym, ◌∙◌, ap, subst, append_assoc}
+use Rattle.std.proofs.Common.{◌≡◌, ℕ, List, [], ◌∷◌, ◌++◌, refl, sym, ◌∙◌, ap, subst, append_assoc}
 use Rattle.std.specs.Prelude.{map}
-use Rattle.std.specs.List.{AllByRecursion, flat_map}
+use Rattle.std.specs.List.{flat_map}
 use Rattle.std.proofs.lemmas.List.{append-nil}
 use Rattle.std.proofs.lemmas.List.Sums.{fold-append}
-use Rattle.std.proofs.lemmas.Grind.{flat_map-append}
 use Rattle.tl_file.specs.declared.file.FileBytes.{FileBytes}
-use Rattle.tl_frame.specs.declared.event.FrameEvent.{FrameEvent}
-use Rattle.tl_frame.specs.Frames.{FitsFrame, IsFrame}
-use Rattle.tl_frame.specs.Scan.{Token, EntryText, FileHead, FileByte, FrameEnd, Scan, tokens_of, file_tokens, frame_tokens}
+use Rattle.tl_frame.specs.Frames.{IsFrame}
+use Rattle.tl_frame.specs.Scan.{Token, FileByte, FrameEnd, Scan, tokens_of, file_tokens, frame_tokens}
 use Rattle.tl_frame.specs.States.{IsWhole}
 use Rattle.tl_frame.proofs.FrameLaws.{frame_scan}
-use Rattle.tl_frame.specs.Events.{event_tokens, with_bytes, with_token, with_tokens}
+use Rattle.tl_frame.specs.Events.{with_bytes, with_token, with_tokens}
 
 pub with_bytes-push : (done : List FileBytes) (f : FileBytes) (bytes : List ℕ) → with_bytes (done ++ f ∷ []) bytes ≡ done ++ record { path = f.path; bytes = f.bytes ++ bytes } ∷ []
 with_bytes-push [] f bytes = refl

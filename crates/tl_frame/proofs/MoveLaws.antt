@@ -1,20 +1,19 @@
 -- What a whole field makes of a reader.
-use Rattle.std.proofs.Common.{◌≡◌, ◌<◌, ◌≤◌, ◌+◌, ◌-◌, ◌^◌, ℕ, zero, suc, min, Bool, true, false, cond, List, [], ◌∷◌, ◌++◌, length, refl, sym, ◌∙◌, ap, subst, arith, eqb, Option, Some, None, ◌⊎◌, inl, inr, ◌&&◌}
+use Rattle.std.proofs.Common.{◌≡◌, ◌<◌, ◌≤◌, ◌+◌, ◌-◌, ◌^◌, ℕ, zero, suc, min, true, false, cond, List, [], ◌∷◌, ◌++◌, length, refl, sym, ◌∙◌, ap, subst, arith, ◌⊎◌, inl, inr}
 use Rattle.std.specs.Prelude.{bytes_eq}
 use Rattle.std.specs.Int.{w16, w32, w64, from_be_bytes}
 use Rattle.std.proofs.lemmas.List.{append-nil}
-use Rattle.tl_path.specs.Path.{IsPath}
 use Rattle.tl_frame.specs.declared.event.FrameEvent.{FrameEvent}
 use Rattle.tl_frame.specs.declared.event.FrameEvent.TheVariants as event
 use Rattle.tl_frame.specs.declared.stage.Waiting.{Waiting}
 use Rattle.tl_frame.specs.declared.stage.Stage.{Stage}
-use Rattle.tl_frame.specs.declared.stage.Stage.TheVariants.{Magic, EntrySize, EntryText, Count, PathSize, PathText, Size, Content, Mark, Ended, Faulty, Spent}
+use Rattle.tl_frame.specs.declared.stage.Stage.TheVariants.{Magic, EntrySize, EntryText, Count, PathSize, PathText, Size, Content, Mark, Ended, Faulty}
 use Rattle.tl_frame.specs.Frames.{frame_magic, frame_mark}
-use Rattle.tl_frame.specs.Scan.{Token, EntryText as text_token, FileHead, FileByte, FrameEnd, AtEnd, InField, AtFault, Scan, stop, telling, nothing_from, mark_from, bytes_from, size_from, is_later_path, path_from, files_from, count_from, entry_from, entry_size_from, magic_from}
+use Rattle.tl_frame.specs.Scan.{Token, EntryText as text_token, FileHead, FrameEnd, AtFault, Scan, stop, telling, nothing_from, bytes_from, size_from, is_later_path, path_from, files_from, count_from, entry_from, entry_size_from}
 use Rattle.tl_frame.specs.Events.{AddsEvents, HasBytes, event_tokens}
-use Rattle.tl_frame.specs.States.{ReaderState, reader_at, at_field, told_place, rest_by, rest_from, is_spent_stage, IsInForm, GoesOn, Moves, before_files}
+use Rattle.tl_frame.specs.States.{at_field, told_place, rest_by, rest_from, is_spent_stage, IsInForm, Moves, before_files}
 use Rattle.tl_frame.proofs.PathLaws.{later_is_path}
-use Rattle.tl_frame.proofs.FieldLaws.{field_whole, magic_is, entry_size_is, entry_is, count_is, files_is, no_files_is, path_fits, path_wrong, path_empty, size_is, mark_is, nothing_is, bytes_done, bytes_whole, bytes_part}
+use Rattle.tl_frame.proofs.FieldLaws.{field_whole, magic_is, entry_size_is, entry_is, count_is, files_is, no_files_is, path_fits, path_wrong, path_empty, size_is, mark_is, bytes_done}
 
 pub place_behind : (place here size : ℕ) → place ≡ told_place here → min (place + size) (2 ^ 64 - 1) ≡ told_place (here + size)
 place_behind place here size is = omega arith
@@ -82,14 +81,14 @@ pub moves_magic : (w new : Waiting) (field : List ℕ) (events : List FrameEvent
 moves_magic w new field events stage size same is =
     moves_on w new 8 EntrySize [] [] field events events [] is (no_events events) (record { kept_less = omega arith; at_stage = refl }) refl
     (λ here more. rest_is w Magic stage [] here (field ++ more) ∙ magic_is here (field ++ more) ∙ field_whole 8 here field more _ size
-        ∙ ap (λ b. cond b (entry_size_from (here + 8) more) (stop (AtFault here))) same)
+    ∙ ap (λ b. cond b (entry_size_from (here + 8) more) (stop (AtFault here))) same)
 
 pub moves_other_magic : (w new : Waiting) (field : List ℕ) (events : List FrameEvent) → w.stage ≡ Magic → length field ≡ 8 → bytes_eq field frame_magic ≡ false
     → new ≡ here_at w Faulty → Moves (at_field w []) (at_field new []) field events events
 moves_other_magic w new field events stage size differs is =
     moves_wrong w new [] field events is
     (λ here more. rest_is w Magic stage [] here (field ++ more) ∙ magic_is here (field ++ more) ∙ field_whole 8 here field more _ size
-        ∙ ap (λ b. cond b (entry_size_from (here + 8) more) (stop (AtFault here))) differs)
+    ∙ ap (λ b. cond b (entry_size_from (here + 8) more) (stop (AtFault here))) differs)
 
 -- the length of an entry's text, where it has a byte
 pub moves_entry_size : (w new : Waiting) (size : ℕ) (field : List ℕ) (events : List FrameEvent) → w.stage ≡ EntrySize → length field ≡ 4 → size ≡ from_be_bytes w32 field → 0 < size
@@ -97,7 +96,7 @@ pub moves_entry_size : (w new : Waiting) (size : ℕ) (field : List ℕ) (events
 moves_entry_size w new size field events stage four told some is =
     moves_on w new 4 (EntryText size) [] [] field events events [] is (no_events events) (record { kept_less = some; at_stage = refl }) refl
     (λ here more. rest_is w EntrySize stage [] here (field ++ more) ∙ entry_size_is here (field ++ more) ∙ field_whole 4 here field more _ four
-        ∙ ap (λ (n : ℕ). entry_from n (here + 4) more) (sym told))
+    ∙ ap (λ (n : ℕ). entry_from n (here + 4) more) (sym told))
 
 -- the same where it has none
 pub moves_no_entry : (w new : Waiting) (field : List ℕ) (before after : List FrameEvent) → w.stage ≡ EntrySize → length field ≡ 4 → 0 ≡ from_be_bytes w32 field
@@ -105,9 +104,9 @@ pub moves_no_entry : (w new : Waiting) (field : List ℕ) (before after : List F
 moves_no_entry w new field before after stage four told added is =
     moves_on w new 4 Count [] [] field before after (event_tokens (event.Entry [])) is (one_event before after (event.Entry []) added tt) (record { kept_less = omega arith; at_stage = refl }) refl
     (λ here more. rest_is w EntrySize stage [] here (field ++ more) ∙ entry_size_is here (field ++ more) ∙ field_whole 4 here field more _ four
-        ∙ ap (λ (n : ℕ). entry_from n (here + 4) more) (sym told) ∙ entry_is 0 (here + 4) more
-        ∙ field_whole 0 (here + 4) [] more (λ entry rest. telling (text_token entry ∷ []) (count_from (here + 4 + 0) rest)) refl
-        ∙ nothing here more)
+    ∙ ap (λ (n : ℕ). entry_from n (here + 4) more) (sym told) ∙ entry_is 0 (here + 4) more
+    ∙ field_whole 0 (here + 4) [] more (λ entry rest. telling (text_token entry ∷ []) (count_from (here + 4 + 0) rest)) refl
+    ∙ nothing here more)
   where
     nothing : (here : ℕ) (more : List ℕ) → telling (text_token [] ∷ []) (count_from (here + 4 + 0) more) ≡ telling (text_token [] ∷ []) (count_from (here + 4) more)
     nothing here more = let same : here + 4 + 0 ≡ here + 4 = omega arith in ap (λ (n : ℕ). telling (text_token [] ∷ []) (count_from n more)) same
@@ -117,14 +116,14 @@ pub moves_entry : (w new : Waiting) (field text : List ℕ) (before after : List
 moves_entry w new field text before after stage same added is =
     moves_on w new (length field) Count [] [] field before after (event_tokens (event.Entry text)) is (one_event before after (event.Entry text) added tt) (record { kept_less = omega arith; at_stage = refl }) refl
     (λ here more. rest_is w (EntryText (length field)) stage [] here (field ++ more) ∙ entry_is (length field) here (field ++ more) ∙ field_whole (length field) here field more _ refl
-        ∙ ap (λ (l : List ℕ). telling (text_token l ∷ []) (count_from (here + length field) more)) (sym same))
+    ∙ ap (λ (l : List ℕ). telling (text_token l ∷ []) (count_from (here + length field) more)) (sym same))
 
 pub moves_count : (w new : Waiting) (count : ℕ) (field : List ℕ) (events : List FrameEvent) → w.stage ≡ Count → length field ≡ 4 → count ≡ from_be_bytes w32 field
     → new ≡ before_files (min (w.place + 4) (2 ^ 64 - 1)) count → Moves (at_field w []) (at_field new []) field events events
 moves_count w new count field events stage four told is =
     moves_files w new 4 count [] [] field events events [] is (no_events events)
     (λ here more. rest_is w Count stage [] here (field ++ more) ∙ count_is here (field ++ more) ∙ field_whole 4 here field more _ four
-        ∙ ap (λ (n : ℕ). files_from n [] (here + 4) more) (sym told))
+    ∙ ap (λ (n : ℕ). files_from n [] (here + 4) more) (sym told))
 
 -- from the length of a path on
 path_size_rest : (w : Waiting) (size : ℕ) (last field : List ℕ) → w.stage ≡ PathSize → length field ≡ 2 → size ≡ from_be_bytes w16 field → (here : ℕ) (more : List ℕ)
@@ -162,7 +161,7 @@ pub moves_path : (w new : Waiting) (last last' field : List ℕ) (events : List 
 moves_path w new last last' field events stage few later same is =
     subst (λ (l : List ℕ). Moves (at_field w last) (at_field new l) field events events) (sym same)
     (moves_on w new (length field) Size last field field events events [] is (no_events events) (record { kept_less = omega arith; at_stage = later_is_path last field later }) refl
-        (λ here more. path_rest w last field stage few here more ∙ ap (λ b. cond b (size_from field (here + length field) more (files_from w.files)) (stop (AtFault here))) later))
+    (λ here more. path_rest w last field stage few here more ∙ ap (λ b. cond b (size_from field (here + length field) more (files_from w.files)) (stop (AtFault here))) later))
 
 pub moves_other_path : (w new : Waiting) (last field : List ℕ) (events : List FrameEvent) → w.stage ≡ PathText (length field) → length field ≤ 1024 → is_later_path last field ≡ false
     → new ≡ here_at w Faulty → Moves (at_field w last) (at_field new last) field events events
@@ -184,8 +183,8 @@ pub moves_size : (w new : Waiting) (path last field : List ℕ) (len : ℕ) (bef
 moves_size w new path last field len before after stage eight same told some added is =
     subst (λ (n : Waiting). Moves (at_field w last) (at_field n last) field before after) (sym is)
     (moved w (record w { stage = Content len; place = min (w.place + 8) (2 ^ 64 - 1); size = len }) last last field before after (event_tokens (event.File path len)) (λ here. here + 8)
-        (one_event before after (event.File path len) added tt) (record { kept_less = refl; at_stage = some }) refl (λ here at. place_behind w.place here 8 at)
-        (size_rest w path last field len stage eight same told))
+    (one_event before after (event.File path len) added tt) (record { kept_less = refl; at_stage = some }) refl (λ here at. place_behind w.place here 8 at)
+    (size_rest w path last field len stage eight same told))
 
 -- a file without bytes
 pub moves_no_bytes : (w new : Waiting) (path last field : List ℕ) (len : ℕ) (before after : List FrameEvent) → w.stage ≡ Size → length field ≡ 8 → path ≡ last → len ≡ from_be_bytes w64 field → len ≡ 0
@@ -194,9 +193,9 @@ pub moves_no_bytes : (w new : Waiting) (path last field : List ℕ) (len : ℕ) 
 moves_no_bytes w new path last field len before after stage eight same told none added is =
     moves_files w new 8 w.files last last field before after (event_tokens (event.File path len)) is (one_event before after (event.File path len) added tt)
     (λ here more. size_rest w path last field len stage eight same told here more
-        ∙ ap (λ (n : ℕ). telling (FileHead path len ∷ []) (bytes_from n (here + 8) more (files_from w.files last (here + 8 + n)))) none
-        ∙ ap (λ (s : Scan). telling (FileHead path len ∷ []) s) (bytes_done (here + 8) more (files_from w.files last (here + 8 + 0)))
-        ∙ nothing here more)
+    ∙ ap (λ (n : ℕ). telling (FileHead path len ∷ []) (bytes_from n (here + 8) more (files_from w.files last (here + 8 + n)))) none
+    ∙ ap (λ (s : Scan). telling (FileHead path len ∷ []) s) (bytes_done (here + 8) more (files_from w.files last (here + 8 + 0)))
+    ∙ nothing here more)
   where
     nothing : (here : ℕ) (more : List ℕ) → telling (FileHead path len ∷ []) (files_from w.files last (here + 8 + 0) more) ≡ telling (FileHead path len ∷ []) (files_from w.files last (here + 8) more)
     nothing here more = let same : here + 8 + 0 ≡ here + 8 = omega arith in ap (λ (n : ℕ). telling (FileHead path len ∷ []) (files_from w.files last n more)) same

@@ -1,5 +1,5 @@
 -- The place of a fault is within the bytes.
-use Rattle.std.proofs.Common.{◌≡◌, ◌<◌, ◌≤◌, ◌+◌, ◌-◌, ◌^◌, ℕ, zero, suc, min, Bool, true, false, cond, List, [], ◌∷◌, ◌++◌, length, take, drop, Option, Some, None, Result, Ok, Err, refl, sym, ◌∙◌, ap, subst, arith, length-drop, eqb}
+use Rattle.std.proofs.Common.{◌≡◌, ◌<◌, ◌≤◌, ◌+◌, ◌^◌, ℕ, zero, suc, Bool, true, false, cond, List, [], ◌∷◌, length, take, drop, Some, None, Err, refl, sym, ◌∙◌, ap, subst, arith, length-drop, eqb}
 use Rattle.std.specs.Prelude.{map, bytes_eq, nat_lt}
 use Rattle.std.specs.Int.{w16, w32, w64, from_be_bytes}
 use Rattle.std.proofs.lemmas.Bool.{ltb-false, cond_both}
@@ -7,7 +7,7 @@ use Rattle.tl_file.specs.declared.file.FileBytes.{FileBytes}
 use Rattle.tl_frame.specs.declared.error.FrameError.{FrameError}
 use Rattle.tl_frame.specs.declared.error.FrameError.TheVariants.{BadFrame, NoMemory}
 use Rattle.tl_frame.specs.Frames.{frame_magic, frame_mark, IsFrame}
-use Rattle.tl_frame.specs.Scan.{EntryText, FileHead, FileByte, FrameEnd, ScanEnd, AtEnd, InField, AtFault, Scan, stop, telling, scan, ending_of, frame_fault, place_in, field_from, nothing_from, mark_from, bytes_from, size_from, is_later_path, path_from, files_from, count_from, entry_from, entry_size_from, magic_from}
+use Rattle.tl_frame.specs.Scan.{FileByte, FrameEnd, ScanEnd, AtEnd, InField, AtFault, Scan, stop, telling, scan, ending_of, frame_fault, place_in, field_from, nothing_from, mark_from, bytes_from, size_from, is_later_path, path_from, files_from, count_from, entry_from, entry_size_from, magic_from}
 use Rattle.tl_frame.specs.States.{told_place}
 use Rattle.tl_frame.specs.Answers.{IsFrameErrorOf, feed_by, feed_answer, finish_by, finish_answer}
 use Rattle.tl_frame.proofs.FieldLaws.{magic_is, entry_size_is, entry_is, count_is, files_is, no_files_is, path_is, size_is, mark_is, nothing_is}
@@ -57,8 +57,8 @@ module _ (most : ℕ) where
   path_within : (size : ℕ) (last : List ℕ) (from : ℕ) (text : List ℕ) (go : List ℕ → ℕ → List ℕ → Scan) → from + length text ≡ most → ((path : List ℕ) (place : ℕ) (rest : List ℕ) → place + length rest ≡ most → IsWithin most (go path place rest)) → IsWithin most (path_from size last from text go)
   path_within size last from text go here behind = subst (IsWithin most) (sym (path_is size last from text go))
       (cond_both (nat_lt 1024 size) (stop (AtFault from)) (field_from size from text (λ name rest. cond (is_later_path last name) (size_from name (from + size) rest go) (stop (AtFault from)))) (IsWithin most) (λ long. omega arith) (λ short.
-          field_within size from text _ here (λ name rest there.
-          test_within (is_later_path last name) (size_from name (from + size) rest go) from (omega arith) (size_within name (from + size) rest go there (behind name)))))
+      field_within size from text _ here (λ name rest there.
+      test_within (is_later_path last name) (size_from name (from + size) rest go) from (omega arith) (size_within name (from + size) rest go there (behind name)))))
 
   files_within : (count : ℕ) (last : List ℕ) (from : ℕ) (text : List ℕ) → from + length text ≡ most → IsWithin most (files_from count last from text)
   files_within zero last from text here = subst (IsWithin most) (sym (no_files_is last from text)) (mark_within from text here)

@@ -1,17 +1,17 @@
 -- Bytes that end as a frame does are one.
-use Rattle.std.proofs.Common.{◌≡◌, ◌<◌, ◌≤◌, ◌+◌, ◌-◌, ◌*◌, ◌^◌, ℕ, zero, suc, Bool, true, false, cond, ◌&&◌, List, [], ◌∷◌, ◌++◌, length, take, drop, refl, sym, ◌∙◌, ap, subst, arith, append_assoc, length-append, length-drop, eqb, get_or}
-use Rattle.std.specs.Prelude.{map, bytes_eq, nat_lt, slice_index}
+use Rattle.std.proofs.Common.{◌≡◌, ◌<◌, ◌≤◌, ◌+◌, ◌^◌, ℕ, zero, suc, Bool, true, false, cond, List, [], ◌∷◌, ◌++◌, length, take, drop, refl, sym, ◌∙◌, ap, subst, arith, append_assoc, eqb}
+use Rattle.std.specs.Prelude.{map, bytes_eq, nat_lt}
 use Rattle.std.specs.List.{AllByRecursion, flat_map}
 use Rattle.std.specs.Int.{Width, w16, w32, w64, to_be_bytes, from_be_bytes}
 use Rattle.std.specs.Ordering.{nat_cmp, is_lt}
 use Rattle.std.specs.Cmp.Lexicographic.{slice_cmp}
-use Rattle.std.proofs.lemmas.List.{append-nil, nil_from_length, length-take, take-append-drop, get_or-drop}
+use Rattle.std.proofs.lemmas.List.{nil_from_length, length-take, take-append-drop, get_or-drop}
 use Rattle.std.proofs.lemmas.Bool.{ltb-false, eqb-true, and_from, and_parts}
 use Rattle.std.proofs.lemmas.Nat.{be_bytes_2, be_bytes_4, be_bytes_8}
 use Rattle.std.proofs.lemmas.Slice.Eq.{bytes_eq-Decides}
 use Rattle.tl_file.specs.declared.file.FileBytes.{FileBytes}
-use Rattle.tl_frame.specs.Frames.{frame_magic, frame_mark, framed_file, frame, paths_rise, paths_rise_behind, FitsFrame, HaveFrame, IsFrame}
-use Rattle.tl_frame.specs.Scan.{Token, EntryText, FileHead, FileByte, FrameEnd, ScanEnd, AtEnd, InField, AtFault, Scan, stop, telling, scan, ending_of, AreBytes, field_from, nothing_from, mark_from, bytes_from, size_from, is_later_path, path_from, files_from, count_from, entry_from, entry_size_from, magic_from}
+use Rattle.tl_frame.specs.Frames.{frame_magic, frame_mark, framed_file, frame, paths_rise, paths_rise_behind, FitsFrame, IsFrame}
+use Rattle.tl_frame.specs.Scan.{FileByte, AtEnd, InField, AtFault, Scan, stop, telling, scan, ending_of, AreBytes, field_from, mark_from, bytes_from, size_from, is_later_path, path_from, files_from, count_from, entry_from, entry_size_from}
 use Rattle.tl_frame.specs.States.{IsWhole}
 use Rattle.tl_frame.proofs.FieldLaws.{magic_is, entry_size_is, entry_is, count_is, files_is, no_files_is, path_is, size_is, mark_is, nothing_is}
 use Rattle.tl_frame.proofs.FeedLaws.{bytes_front}
@@ -276,9 +276,9 @@ entry_size_read from text are ends =
 behind_magic : (text : List ℕ) → IsBehindMagic text → IsWhole (frame_magic ++ text)
 unfolding frame
 behind_magic text is = by (record {
-      have = record { entry_fits = is.fits; count_fits = is.counted.fits; each = is.counted.each; rising = is.counted.rising };
-      same = ap (λ (l : List ℕ). frame_magic ++ l) (is.same ∙ ap (λ (l : List ℕ). to_be_bytes w32 (length is.entry) ++ (is.entry ++ l)) is.counted.same);
-    })
+  have = record { entry_fits = is.fits; count_fits = is.counted.fits; each = is.counted.each; rising = is.counted.rising };
+  same = ap (λ (l : List ℕ). frame_magic ++ l) (is.same ∙ ap (λ (l : List ℕ). to_be_bytes w32 (length is.entry) ++ (is.entry ++ l)) is.counted.same);
+})
   where
     by : IsFrame (frame_magic ++ text) is.entry is.counted.files → IsWhole (frame_magic ++ text)
     by there = record { entry = is.entry; files = is.counted.files; is = there; told = ap (λ (s : Scan). s.tokens) (frame_scan (frame_magic ++ text) is.entry is.counted.files there) }

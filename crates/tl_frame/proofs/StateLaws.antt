@@ -1,5 +1,5 @@
 -- How a reader goes on from front to front of a piece.
-use Rattle.std.proofs.Common.{◌≡◌, ◌<◌, ◌≤◌, ◌+◌, ◌-◌, ◌^◌, ℕ, zero, suc, min, Bool, true, false, cond, List, [], ◌∷◌, ◌++◌, length, Option, Some, None, refl, sym, ◌∙◌, ap, subst, arith, append_assoc, length-append, eqb}
+use Rattle.std.proofs.Common.{◌≡◌, ◌<◌, ◌+◌, ◌-◌, ◌^◌, ℕ, suc, min, Bool, false, cond, List, [], ◌∷◌, ◌++◌, length, Option, Some, None, refl, sym, ◌∙◌, ap, subst, arith, append_assoc, length-append, eqb}
 use Rattle.std.specs.Prelude.{map}
 use Rattle.std.specs.List.{AllByRecursion, flat_map}
 use Rattle.std.proofs.lemmas.List.{append-nil}
@@ -9,12 +9,12 @@ use Rattle.tl_frame.specs.declared.event.FrameEvent.{FrameEvent}
 use Rattle.tl_frame.specs.declared.event.FrameEvent.TheVariants as event
 use Rattle.tl_frame.specs.declared.stage.Waiting.{Waiting}
 use Rattle.tl_frame.specs.declared.stage.Stage.{Stage}
-use Rattle.tl_frame.specs.declared.stage.Stage.TheVariants.{Magic, EntrySize, EntryText, Count, PathSize, PathText, Size, Content, Mark, Ended, Faulty, Spent}
-use Rattle.tl_frame.specs.Scan.{Token, FileByte, AtEnd, InField, AtFault, Scan, stop, telling, nothing_from, bytes_from, files_from}
+use Rattle.tl_frame.specs.declared.stage.Stage.TheVariants.{Content, Ended, Faulty, Spent}
+use Rattle.tl_frame.specs.Scan.{Token, FileByte, AtEnd, AtFault, Scan, stop, telling, bytes_from, files_from}
 use Rattle.tl_frame.specs.Events.{AddsEvents, HasBytes, event_tokens}
-use Rattle.tl_frame.specs.States.{ReaderState, reader_at, at_field, told_place, wanted_by, rest_by, rest_from, is_spent, is_spent_stage, IsKept, IsAtStage, IsInForm, GoesOn, Moves, Takes, before_files}
-use Rattle.tl_frame.proofs.FieldLaws.{nothing_is, no_files_is, bytes_whole, bytes_part}
-use Rattle.tl_frame.proofs.MoveLaws.{no_events, one_event, rest_is, moves_wrong, moves_files, moved, here_at, place_behind}
+use Rattle.tl_frame.specs.States.{ReaderState, reader_at, at_field, wanted_by, rest_from, is_spent, is_spent_stage, IsKept, IsInForm, GoesOn, Moves, Takes, before_files}
+use Rattle.tl_frame.proofs.FieldLaws.{nothing_is, bytes_whole, bytes_part}
+use Rattle.tl_frame.proofs.MoveLaws.{no_events, one_event, rest_is, moves_wrong, moves_files, moved, here_at}
 
 all_append : (xs ys : List FrameEvent) → AllByRecursion HasBytes xs → AllByRecursion HasBytes ys → AllByRecursion HasBytes (xs ++ ys)
 all_append [] ys are also = also
@@ -154,9 +154,9 @@ takes_part w new left last piece front rest bytes x y stage split some less same
   split = split;
   moves = subst (λ (n : Waiting). Moves (at_field w last) (at_field n last) front x y) (sym is)
       (moved w (here_at w (Content (left - length front))) last last front x y (event_tokens (event.Bytes bytes)) (λ here. here) (one_event x y (event.Bytes bytes) added (has bytes (subst (λ (l : List ℕ). 0 < length l) (sym same) some)))
-          (record { kept_less = refl; at_stage = omega arith }) refl (λ here at. at)
-          (λ here more. rest_is w (Content left) stage last here (front ++ more) ∙ bytes_part left here front more (files_from w.files last (here + w.size)) (omega arith)
-              ∙ ap (λ (l : List ℕ). telling (map FileByte l) (bytes_from (left - length front) here more (files_from w.files last (here + w.size)))) (sym same)));
+      (record { kept_less = refl; at_stage = omega arith }) refl (λ here at. at)
+      (λ here more. rest_is w (Content left) stage last here (front ++ more) ∙ bytes_part left here front more (files_from w.files last (here + w.size)) (omega arith)
+      ∙ ap (λ (l : List ℕ). telling (map FileByte l) (bytes_from (left - length front) here more (files_from w.files last (here + w.size)))) (sym same)));
 }
 
 -- all of them that lacked
@@ -167,5 +167,5 @@ takes_all w new left last piece front rest bytes x y stage split some all same a
   split = split;
   moves = moves_files w new w.size w.files last last front x y (event_tokens (event.Bytes bytes)) is (one_event x y (event.Bytes bytes) added (has bytes (subst (λ (l : List ℕ). 0 < length l) (sym same) some)))
       (λ here more. rest_is w (Content left) stage last here (front ++ more) ∙ bytes_whole left here front more (files_from w.files last (here + w.size)) all
-          ∙ ap (λ (l : List ℕ). telling (map FileByte l) (files_from w.files last (here + w.size) more)) (sym same));
+      ∙ ap (λ (l : List ℕ). telling (map FileByte l) (files_from w.files last (here + w.size) more)) (sym same));
 }

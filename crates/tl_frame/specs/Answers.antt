@@ -1,11 +1,11 @@
 -- What the answers of the calls say of the bytes.
-use Rattle.std.specs.Prelude.{◌≡◌, ◌≢◌, ℕ, Bool, true, false, List, length, Option, Some, None, Result, Ok, Err}
+use Rattle.std.specs.Prelude.{◌≡◌, ◌≢◌, ℕ, Bool, true, false, List, length, Some, Result, Ok, Err}
 use Rattle.sha2.specs.Sha512.{sha512}
 use Rattle.tl_frame.specs.declared.error.FrameError.{FrameError}
 use Rattle.tl_frame.specs.declared.error.FrameError.TheVariants.{BadFrame, NoMemory}
 use Rattle.tl_frame.specs.declared.error.CheckError.{CheckError}
 use Rattle.tl_frame.specs.declared.error.CheckError.TheVariants.{SizeDiffers, DigestDiffers}
-use Rattle.tl_frame.specs.Scan.{ScanEnd, AtEnd, InField, AtFault, frame_fault, ending_of, place_in}
+use Rattle.tl_frame.specs.Scan.{ScanEnd, AtEnd, InField, AtFault, frame_fault, ending_of}
 use Rattle.tl_frame.specs.declared.stage.Stage.{Stage}
 use Rattle.tl_frame.specs.declared.stage.Stage.TheVariants.{Ended, Faulty, Spent}
 use Rattle.tl_frame.specs.States.{ReaderState, told_place}

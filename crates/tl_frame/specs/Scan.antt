@@ -1,5 +1,5 @@
 -- What the bytes of a frame tell, as far as they have come, and where they fail to be a frame.
-use Rattle.std.specs.Prelude.{◌≡◌, ◌<◌, ◌+◌, ℕ, zero, suc, Bool, ◌==◌, ◌&&◌, nat_lt, slice_index, bytes_eq, if◌then◌else◌, List, [], ◌∷◌, ◌++◌, length, take, drop, map, Option, Some, None}
+use Rattle.std.specs.Prelude.{◌<◌, ◌+◌, ℕ, zero, suc, Bool, ◌==◌, ◌&&◌, nat_lt, slice_index, bytes_eq, if◌then◌else◌, List, [], ◌∷◌, ◌++◌, length, take, drop, map, Option, Some, None}
 use Rattle.std.specs.List.{flat_map}
 use Rattle.std.specs.Option.{is_none}
 use Rattle.std.specs.Int.{w16, w32, w64, from_be_bytes}

@@ -1,5 +1,5 @@
 -- What a reader of a frame in pieces is seen as, and which bytes lead to it.
-use Rattle.std.specs.Prelude.{◌≡◌, ◌<◌, ◌≤◌, ◌+◌, ◌-◌, ◌^◌, ℕ, zero, suc, min, Bool, true, false, List, [], ◌∷◌, ◌++◌, length, Option, Some, None, slice_index}
+use Rattle.std.specs.Prelude.{◌≡◌, ◌<◌, ◌≤◌, ◌+◌, ◌-◌, ◌^◌, ℕ, zero, suc, min, Bool, true, false, List, [], ◌++◌, length, Option, Some, None}
 use Rattle.tl_path.specs.Path.{IsPath}
 use Rattle.tl_file.specs.declared.file.FileBytes.{FileBytes}
 use Rattle.tl_frame.specs.declared.event.FrameEvent.{FrameEvent}

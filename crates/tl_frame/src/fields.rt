@@ -134,11 +134,7 @@ fn behind_path_size(waiting: Waiting, field: &[u8]) -> Waiting
     }
 }
 
-fn behind_path(
-    waiting: Waiting,
-    last: &mut Vec<u8>,
-    field: &[u8],
-) -> Result<Waiting, AllocError>
+fn behind_path(waiting: Waiting, last: &mut Vec<u8>, field: &[u8]) -> Result<Waiting, AllocError>
     requires stage { waiting.stage ≡ Stage.PathText (length field.now) }
     requires short { length field.now ≤ 1024 }
     ensures { IfOk result (λ new. (events : List FrameEvent) → Moves (at_field waiting last.old.items) (at_field new last.new.items)

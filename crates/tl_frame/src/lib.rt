@@ -16,4 +16,3 @@ pub use error::{CheckError, FrameError};
 pub use event::FrameEvent;
 pub use pieces::FrameReader;
 pub use whole::{Frame, read_frame, write_frame};
-

@@ -72,11 +72,7 @@ fn frame_of(alloc: Global, events: Vec<FrameEvent>) -> Result<Frame, AllocError>
 
 /// The frame of an entry's text and of files whose paths rise. The text is shorter than 2^32 bytes, and there are fewer
 /// than 2^32 files.
-pub fn write_frame(
-    alloc: Global,
-    entry: &[u8],
-    files: &[FileBytes],
-) -> Result<Vec<u8>, AllocError>
+pub fn write_frame(alloc: Global, entry: &[u8], files: &[FileBytes]) -> Result<Vec<u8>, AllocError>
     requires entry { length entry.now < 2 ^ 32 }
     requires count { length files.now < 2 ^ 32 }
     requires rise { paths_rise files.now ≡ true }

@@ -1,4 +1,4 @@
-use Rattle.std.proofs.Common.{◌≡◌, List, [], ◌++◌, ℕ, Bool, true, false, sym, ◌∙◌, ap}
+use Rattle.std.proofs.Common.{◌≡◌, List, ◌++◌, ℕ, Bool, sym, ◌∙◌, ap}
 use Rattle.tl_frame.specs.Scan.{is_later_path}
 use Rattle.tl_frame.proofs.MoveLaws.{moves_path, moves_other_path}
 use Rattle.tl_frame.proofs.fields.behind_path.Goals as goal

@@ -1,4 +1,4 @@
-use Rattle.std.proofs.Common.{◌≡◌, ◌<◌, ◌≤◌, ◌⊎◌, ℕ, arith, inl, inr}
+use Rattle.std.proofs.Common.{◌≡◌, ◌<◌, ◌⊎◌, ℕ, arith, inl, inr}
 use Rattle.tl_frame.proofs.MoveLaws.{moves_path_size, moves_no_path}
 use Rattle.tl_frame.proofs.fields.behind_path_size.Goals as goal
 

@@ -1,4 +1,4 @@
-use Rattle.std.proofs.Common.{◌≡◌, ◌<◌, ◌+◌, ◌-◌, ◌^◌, min, ℕ, ◌∙◌, ap, arith}
+use Rattle.std.proofs.Common.{◌<◌, ℕ, ◌∙◌, ap, arith}
 use Rattle.tl_frame.specs.declared.stage.Stage.TheVariants.{Content}
 use Rattle.tl_frame.specs.declared.stage.Waiting.{Waiting}
 use Rattle.tl_frame.proofs.MoveLaws.{moves_size, moves_no_bytes}

@@ -1,4 +1,4 @@
-use Rattle.std.proofs.Common.{List, ◌≡◌, ℕ, sym, ◌∙◌, ap}
+use Rattle.std.proofs.Common.{List, ℕ, sym, ◌∙◌, ap}
 use Rattle.std.proofs.lemmas.Result.{on_ok_weaker}
 use Rattle.tl_file.specs.declared.file.FileBytes.{FileBytes}
 use Rattle.tl_frame.specs.declared.event.FrameEvent.{FrameEvent}
@@ -10,6 +10,6 @@ pub returns-in-Bytes : goal.returns-in-Bytes
 returns-in-Bytes c =
     let held : List ℕ × List FileBytes = (c.args.entry.now, c.args.files.now.items) in
     on_ok_weaker c.add_bytes.result (λ same.
-        ap (λ (e : FrameEvent). with_tokens held (event_tokens e)) c.in-Bytes.is
-        ∙ with_tokens-bytes c.in-Bytes.bytes c.args.entry.now c.args.files.now.items
-        ∙ ap (λ (l : List FileBytes). (c.args.entry.now, l)) (sym same)) c.add_bytes.ensures
+    ap (λ (e : FrameEvent). with_tokens held (event_tokens e)) c.in-Bytes.is
+    ∙ with_tokens-bytes c.in-Bytes.bytes c.args.entry.now c.args.files.now.items
+    ∙ ap (λ (l : List FileBytes). (c.args.entry.now, l)) (sym same)) c.add_bytes.ensures

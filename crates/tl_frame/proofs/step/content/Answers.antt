@@ -1,4 +1,4 @@
-use Rattle.std.proofs.Common.{◌≡◌, ◌<◌, ◌≤◌, ◌-◌, ◌∙◌, ℕ, length, arith, ap, sym}
+use Rattle.std.proofs.Common.{◌≡◌, ◌<◌, ◌-◌, ◌∙◌, ℕ, length, arith, ap, sym}
 use Rattle.tl_frame.specs.declared.stage.Stage.TheVariants.{Content}
 use Rattle.tl_frame.specs.declared.stage.Waiting.{Waiting}
 use Rattle.tl_frame.proofs.StateLaws.{takes_part, takes_all}

@@ -1,4 +1,4 @@
-use Rattle.std.proofs.Common.{◌≡◌, ◌<◌, ◌+◌, ◌∙◌, List, ℕ, length, arith, sym, subst}
+use Rattle.std.proofs.Common.{◌<◌, ◌+◌, ◌∙◌, List, ℕ, length, arith, sym, subst}
 use Rattle.tl_frame.specs.States.{Moves, reader_at}
 use Rattle.tl_frame.proofs.StateLaws.{moves_kept, moves_behind}
 use Rattle.tl_frame.proofs.step.gather.Goals as goal

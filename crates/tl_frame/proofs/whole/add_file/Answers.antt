@@ -1,6 +1,5 @@
-use Rattle.std.proofs.Common.{List, ◌≡◌, ◌++◌, ℕ, length, sym, ◌∙◌, ap}
+use Rattle.std.proofs.Common.{List, ◌++◌, ℕ, length, ◌∙◌, ap}
 use Rattle.std.specs.Int.{w16, w64, to_be_bytes}
-use Rattle.tl_file.specs.declared.file.FileBytes.{FileBytes}
 use Rattle.tl_frame.proofs.FrameLaws.{file_pushed}
 use Rattle.tl_frame.proofs.whole.add_file.Goals as goal
 

@@ -1,11 +1,9 @@
-use Rattle.std.proofs.Common.{◌≡◌, ◌<◌, List, [], ◌++◌, ℕ, Bool, true, false, refl, sym, ◌∙◌, ap, subst, arith}
+use Rattle.std.proofs.Common.{◌≡◌, List, [], ℕ, false, refl, sym, ◌∙◌, subst, arith}
 use Rattle.std.proofs.lemmas.Bool.{eqb-true, true≢false}
-use Rattle.std.proofs.lemmas.List.{append-nil, nil_from_length}
-use Rattle.std.proofs.Common.{Vec, Global}
+use Rattle.std.proofs.lemmas.List.{nil_from_length}
 use Rattle.tl_frame.specs.declared.event.FrameEvent.{FrameEvent}
-use Rattle.tl_frame.specs.Scan.{AreBytes, tokens_of}
+use Rattle.tl_frame.specs.Scan.{AreBytes}
 use Rattle.tl_frame.specs.States.{Tells, Takes, is_spent}
-use Rattle.tl_frame.proofs.MoveLaws.{no_events}
 use Rattle.tl_frame.proofs.StateLaws.{takes_more}
 use Rattle.tl_frame.proofs.FeedLaws.{tells_front, tells_none, piece_led, piece_answer, fault_again}
 use Rattle.tl_frame.proofs.pieces.FrameReader.feed.Goals as goal
@@ -23,7 +21,7 @@ pub returns-in-Err-clause-tells : goal.returns-in-Err-clause-tells
 returns-in-Err-clause-tells c fed is =
     subst (λ (after : List FrameEvent). Tells fed c.args.piece.now c.args.out.now.items after (is_spent c.spend.new.self)) (sym c.in-Err.ensures.same)
     (tells_front c.args.self.now c.loop-rest.self fed c.args.piece.now c.loop-rest.rest.now c.args.out.now.items c.loop-rest.out.items (is_spent c.spend.new.self) c.loop-rest.invariant.0
-        (λ live. absurd (true≢false (sym c.spend.ensures ∙ live))) (sym c.is_spent.ensures.spent ∙ c.if-is_spent.false) (λ i. omega (arith, c.type_inv.piece i)) is)
+    (λ live. absurd (true≢false (sym c.spend.ensures ∙ live))) (sym c.is_spent.ensures.spent ∙ c.if-is_spent.false) (λ i. omega (arith, c.type_inv.piece i)) is)
 
 pub returns-in-Err-clause-again : goal.returns-in-Err-clause-again
 returns-in-Err-clause-again c fed place is live wrong = fault_again c.args.self.now fed c.args.piece.now place c.is_spent.ensures.form live is wrong

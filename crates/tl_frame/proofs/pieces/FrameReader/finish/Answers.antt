@@ -1,8 +1,8 @@
-use Rattle.std.proofs.Common.{◌≡◌, List, ℕ, Result, Ok, Err, refl, sym, ◌∙◌, subst}
+use Rattle.std.proofs.Common.{◌≡◌, Result, Ok, Err, refl, sym, ◌∙◌, subst}
 use Rattle.std.specs.Result.{OnOk}
 use Rattle.tl_frame.specs.declared.error.FrameError.{FrameError}
-use Rattle.tl_frame.specs.States.{ReaderState, IsFed, IsInForm, IsWhole, reader_at, is_spent}
-use Rattle.tl_frame.specs.Answers.{finish_at, finish_answer}
+use Rattle.tl_frame.specs.States.{ReaderState, IsFed, reader_at, is_spent}
+use Rattle.tl_frame.specs.Answers.{finish_answer}
 use Rattle.tl_frame.proofs.FeedLaws.{finish_led, ends_at}
 use Rattle.tl_frame.proofs.ReadLaws.{frame_read}
 use Rattle.tl_frame.proofs.pieces.FrameReader.finish.Goals as goal
