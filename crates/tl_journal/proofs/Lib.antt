@@ -1,8 +1,10 @@
-mod Live
-mod Gates
-mod Staged
-mod Pieces
-mod Fronts
-mod Doing
+mod Called
 mod Commits
+mod Doing
+mod Fronts
+mod Gates
+pub mod Left
+mod Live
+mod Pieces
 mod Resumed
+mod Staged

@@ -180,12 +180,3 @@ end_coming s a = ap (λ (l : List ℕ). unwrap_or (records_of (l ++ 69 ∷ [])) 
 -- the spare body was made empty
 pub started : (old new : Seen) (slot : Slot) → spare (open_slot old.present.held) ≡ slot → KeepsTree old new → at new.present.held (body_of slot) ≡ Some [] → at new.present.held (spare_body new.present.held) ≡ Some []
 started old new slot is keeps text = ap (λ (n : Name). at new.present.held n) (spare_stays old new keeps ∙ spare_is old slot is) ∙ text
-
--- ---- what is touched, as the caller sees the host
-
-pub seen_only : (host self new : Seen) (opened : Option Slot) (may : Option Slot → Name → Type 0) → host ≡ self → open_slot host.present.held ≡ opened → TouchesOnly (may opened) host new → TouchesOnly (may (open_slot self.present.held)) self new
-seen_only host self new opened may same is far =
-    subst (λ (s : Seen). TouchesOnly (may (open_slot s.present.held)) s new) same (subst (λ (o : Option Slot). TouchesOnly (may o) host new) (sym is) far)
-
-pub staged_only : (host self new : Seen) (opened : Option Slot) (slot : Slot) → host ≡ self → open_slot host.present.held ≡ opened → slot ≡ spare opened → TouchesOnly (λ name. name ≡ body_of slot) host new → TouchesOnly (IsStaged (open_slot self.present.held)) self new
-staged_only host self new opened slot same is slots far = seen_only host self new opened IsStaged same is (subst (λ (x : Slot). TouchesOnly (λ name. name ≡ body_of x) host new) slots far)

@@ -1,13 +1,13 @@
 // The host's calls on each state of a journal.
-ghost use Rattle.std.specs.Prelude.{◌≡◌, ◌<◌, ◌≤◌, [], length, take, drop, IfOk, IfSome, IsErrOf, is_ok};
-ghost use Rattle.std.specs.Option.{option_map, unwrap_or};
+ghost use Rattle.std.specs.Prelude.{◌≡◌, ◌<◌, ◌≤◌, length, take, IfOk, IfSome, IsErrOf};
+ghost use Rattle.std.specs.Option.{option_map};
 ghost use Rattle.tl_host.specs.Reading.{held_at};
 ghost use Rattle.tl_host.specs.declared.file.FileError.TheVariants.{TooLarge, HostFault as FileFault};
-ghost use Rattle.tl_model.specs.Causes.{HasCause, Rose};
-ghost use Rattle.tl_model.specs.Seen.{Told, Since, Quiet, Says};
-ghost use Rattle.tl_model.specs.Volume.{at, IsAfter, IsNext};
+ghost use Rattle.tl_model.specs.Causes.{HasCause, HasCauseOf};
+ghost use Rattle.tl_model.specs.Seen.{Told, Quiet};
+ghost use Rattle.tl_model.specs.Volume.{at, IsAfter};
 ghost use Rattle.tl_path.specs.Path.{IsPath};
-ghost use Rattle.tl_journal_text.specs.Stand.{SaysFront};
+ghost use Rattle.tl_journal.specs.Asked.{GivesSize, GivesBytes, GivesNext, SaysOnly};
 
 use crate::states::{Applied, Clean, Committed, Staging};
 use std::alloc::Global;
@@ -17,8 +17,7 @@ use tl_path::PathRef;
 impl<H: Host> Applied<H> {
     /// The length of a file; `None` exactly where the name is absent.
     pub fn size(&mut self, name: PathRef<'_>) -> Result<Option<u64>, Failed>
-        ensures length { Told H.tells (IfOk result (λ size. size ≡ option_map length (at self.old.present.held name.entry))) }
-        ensures same { Told H.tells (Quiet self.old self.new) }
+        ensures size { Told H.tells (GivesSize self.old self.new name.entry result) }
         ensures cause { HasCause self.old.faults self.new.faults result }
     {
         self.host.size(name)
@@ -27,11 +26,7 @@ impl<H: Host> Applied<H> {
     /// Fills as many bytes as the buffer and the file from `from` have, and gives their number; 0 for an absent name.
     pub fn read(&mut self, name: PathRef<'_>, from: u64, into: &mut [u8]) -> Result<usize, Failed>
         ensures bound { IfOk result (λ count. count ≤ length into.new) }
-        ensures bytes { Told H.tells (IfOk result (λ count. take count into.new
-            ≡ take (length into.new) (drop from (unwrap_or (at self.old.present.held name.entry) [])))) }
-        ensures count { Told H.tells (IfOk result (λ count. count
-            ≡ length (take (length into.new) (drop from (unwrap_or (at self.old.present.held name.entry) []))))) }
-        ensures same { Told H.tells (Quiet self.old self.new) }
+        ensures bytes { Told H.tells (GivesBytes self.old self.new name.entry from into.new result) }
         ensures cause { HasCause self.old.faults self.new.faults result }
     {
         self.host.read(name, from, into)
@@ -44,11 +39,9 @@ impl<H: Host> Applied<H> {
         after: Option<PathRef<'_>>,
         name: &mut [u8; 1024],
     ) -> Result<Option<usize>, Failed>
-        ensures next { Told H.tells (IfOk result (λ found.
-            IsNext self.old.present.held after.entry (option_map (λ count. take count name.new) found))) }
+        ensures next { Told H.tells (GivesNext self.old self.new after.entry name.new result) }
         ensures path { IfOk result (λ found. IfSome found (λ count.
             (count ≤ 1024) × IsPath (take count name.new) × IsAfter after.entry (take count name.new))) }
-        ensures same { Told H.tells (Quiet self.old self.new) }
         ensures cause { HasCause self.old.faults self.new.faults result }
     {
         self.host.next_name(after, name)
@@ -56,8 +49,7 @@ impl<H: Host> Applied<H> {
 
     /// Says bytes. Where it fails, a front of them is said. Each picture stands for what the volume stands for.
     pub fn say(&mut self, bytes: &[u8]) -> Result<(), Failed>
-        ensures says { Told H.tells (Says (is_ok result) bytes.now self.old self.new) }
-        ensures pictures { Told H.tells (Since self.old self.new (SaysFront bytes.now self.old)) }
+        ensures says { Told H.tells (SaysOnly bytes.now self.old self.new result) }
         ensures cause { HasCause self.old.faults self.new.faults result }
     {
         self.host.say(bytes)
@@ -67,8 +59,7 @@ impl<H: Host> Applied<H> {
 impl<H: Host> Clean<H> {
     /// The length of a file; `None` exactly where the name is absent.
     pub fn size(&mut self, name: PathRef<'_>) -> Result<Option<u64>, Failed>
-        ensures length { Told H.tells (IfOk result (λ size. size ≡ option_map length (at self.old.present.held name.entry))) }
-        ensures same { Told H.tells (Quiet self.old self.new) }
+        ensures size { Told H.tells (GivesSize self.old self.new name.entry result) }
         ensures cause { HasCause self.old.faults self.new.faults result }
     {
         self.host.size(name)
@@ -77,11 +68,7 @@ impl<H: Host> Clean<H> {
     /// Fills as many bytes as the buffer and the file from `from` have, and gives their number; 0 for an absent name.
     pub fn read(&mut self, name: PathRef<'_>, from: u64, into: &mut [u8]) -> Result<usize, Failed>
         ensures bound { IfOk result (λ count. count ≤ length into.new) }
-        ensures bytes { Told H.tells (IfOk result (λ count. take count into.new
-            ≡ take (length into.new) (drop from (unwrap_or (at self.old.present.held name.entry) [])))) }
-        ensures count { Told H.tells (IfOk result (λ count. count
-            ≡ length (take (length into.new) (drop from (unwrap_or (at self.old.present.held name.entry) []))))) }
-        ensures same { Told H.tells (Quiet self.old self.new) }
+        ensures bytes { Told H.tells (GivesBytes self.old self.new name.entry from into.new result) }
         ensures cause { HasCause self.old.faults self.new.faults result }
     {
         self.host.read(name, from, into)
@@ -94,11 +81,9 @@ impl<H: Host> Clean<H> {
         after: Option<PathRef<'_>>,
         name: &mut [u8; 1024],
     ) -> Result<Option<usize>, Failed>
-        ensures next { Told H.tells (IfOk result (λ found.
-            IsNext self.old.present.held after.entry (option_map (λ count. take count name.new) found))) }
+        ensures next { Told H.tells (GivesNext self.old self.new after.entry name.new result) }
         ensures path { IfOk result (λ found. IfSome found (λ count.
             (count ≤ 1024) × IsPath (take count name.new) × IsAfter after.entry (take count name.new))) }
-        ensures same { Told H.tells (Quiet self.old self.new) }
         ensures cause { HasCause self.old.faults self.new.faults result }
     {
         self.host.next_name(after, name)
@@ -106,8 +91,7 @@ impl<H: Host> Clean<H> {
 
     /// Says bytes. Where it fails, a front of them is said. Each picture stands for what the volume stands for.
     pub fn say(&mut self, bytes: &[u8]) -> Result<(), Failed>
-        ensures says { Told H.tells (Says (is_ok result) bytes.now self.old self.new) }
-        ensures pictures { Told H.tells (Since self.old self.new (SaysFront bytes.now self.old)) }
+        ensures says { Told H.tells (SaysOnly bytes.now self.old self.new result) }
         ensures cause { HasCause self.old.faults self.new.faults result }
     {
         self.host.say(bytes)
@@ -126,8 +110,7 @@ impl<H: Host> Clean<H> {
         ensures within { Told H.tells (IfOk result (λ found. length (held_at self.old name.entry) ≤ limit)) }
         ensures large { Told H.tells (IsErrOf result TooLarge → limit < length (held_at self.old name.entry)) }
         ensures same { Told H.tells (Quiet self.old self.new) }
-        ensures later { self.old.faults ≤ self.new.faults }
-        ensures cause { IsErrOf result FileFault → Rose self.old.faults self.new.faults }
+        ensures cause { HasCauseOf (λ error. error ≡ FileFault) self.old.faults self.new.faults result }
     {
         read_file(alloc, &mut self.host, name, limit)
     }
@@ -136,8 +119,7 @@ impl<H: Host> Clean<H> {
 impl<H: Host> Committed<H> {
     /// The length of a file; `None` exactly where the name is absent.
     pub fn size(&mut self, name: PathRef<'_>) -> Result<Option<u64>, Failed>
-        ensures length { Told H.tells (IfOk result (λ size. size ≡ option_map length (at self.old.present.held name.entry))) }
-        ensures same { Told H.tells (Quiet self.old self.new) }
+        ensures size { Told H.tells (GivesSize self.old self.new name.entry result) }
         ensures cause { HasCause self.old.faults self.new.faults result }
     {
         self.host.size(name)
@@ -146,11 +128,7 @@ impl<H: Host> Committed<H> {
     /// Fills as many bytes as the buffer and the file from `from` have, and gives their number; 0 for an absent name.
     pub fn read(&mut self, name: PathRef<'_>, from: u64, into: &mut [u8]) -> Result<usize, Failed>
         ensures bound { IfOk result (λ count. count ≤ length into.new) }
-        ensures bytes { Told H.tells (IfOk result (λ count. take count into.new
-            ≡ take (length into.new) (drop from (unwrap_or (at self.old.present.held name.entry) [])))) }
-        ensures count { Told H.tells (IfOk result (λ count. count
-            ≡ length (take (length into.new) (drop from (unwrap_or (at self.old.present.held name.entry) []))))) }
-        ensures same { Told H.tells (Quiet self.old self.new) }
+        ensures bytes { Told H.tells (GivesBytes self.old self.new name.entry from into.new result) }
         ensures cause { HasCause self.old.faults self.new.faults result }
     {
         self.host.read(name, from, into)
@@ -163,11 +141,9 @@ impl<H: Host> Committed<H> {
         after: Option<PathRef<'_>>,
         name: &mut [u8; 1024],
     ) -> Result<Option<usize>, Failed>
-        ensures next { Told H.tells (IfOk result (λ found.
-            IsNext self.old.present.held after.entry (option_map (λ count. take count name.new) found))) }
+        ensures next { Told H.tells (GivesNext self.old self.new after.entry name.new result) }
         ensures path { IfOk result (λ found. IfSome found (λ count.
             (count ≤ 1024) × IsPath (take count name.new) × IsAfter after.entry (take count name.new))) }
-        ensures same { Told H.tells (Quiet self.old self.new) }
         ensures cause { HasCause self.old.faults self.new.faults result }
     {
         self.host.next_name(after, name)
@@ -175,8 +151,7 @@ impl<H: Host> Committed<H> {
 
     /// Says bytes. Where it fails, a front of them is said. Each picture stands for what the volume stands for.
     pub fn say(&mut self, bytes: &[u8]) -> Result<(), Failed>
-        ensures says { Told H.tells (Says (is_ok result) bytes.now self.old self.new) }
-        ensures pictures { Told H.tells (Since self.old self.new (SaysFront bytes.now self.old)) }
+        ensures says { Told H.tells (SaysOnly bytes.now self.old self.new result) }
         ensures cause { HasCause self.old.faults self.new.faults result }
     {
         self.host.say(bytes)
@@ -186,8 +161,7 @@ impl<H: Host> Committed<H> {
 impl<H: Host> Staging<H> {
     /// The length of a file; `None` exactly where the name is absent.
     pub fn size(&mut self, name: PathRef<'_>) -> Result<Option<u64>, Failed>
-        ensures length { Told H.tells (IfOk result (λ size. size ≡ option_map length (at self.old.present.held name.entry))) }
-        ensures same { Told H.tells (Quiet self.old self.new) }
+        ensures size { Told H.tells (GivesSize self.old self.new name.entry result) }
         ensures cause { HasCause self.old.faults self.new.faults result }
     {
         self.host.size(name)
@@ -196,11 +170,7 @@ impl<H: Host> Staging<H> {
     /// Fills as many bytes as the buffer and the file from `from` have, and gives their number; 0 for an absent name.
     pub fn read(&mut self, name: PathRef<'_>, from: u64, into: &mut [u8]) -> Result<usize, Failed>
         ensures bound { IfOk result (λ count. count ≤ length into.new) }
-        ensures bytes { Told H.tells (IfOk result (λ count. take count into.new
-            ≡ take (length into.new) (drop from (unwrap_or (at self.old.present.held name.entry) [])))) }
-        ensures count { Told H.tells (IfOk result (λ count. count
-            ≡ length (take (length into.new) (drop from (unwrap_or (at self.old.present.held name.entry) []))))) }
-        ensures same { Told H.tells (Quiet self.old self.new) }
+        ensures bytes { Told H.tells (GivesBytes self.old self.new name.entry from into.new result) }
         ensures cause { HasCause self.old.faults self.new.faults result }
     {
         self.host.read(name, from, into)
@@ -213,11 +183,9 @@ impl<H: Host> Staging<H> {
         after: Option<PathRef<'_>>,
         name: &mut [u8; 1024],
     ) -> Result<Option<usize>, Failed>
-        ensures next { Told H.tells (IfOk result (λ found.
-            IsNext self.old.present.held after.entry (option_map (λ count. take count name.new) found))) }
+        ensures next { Told H.tells (GivesNext self.old self.new after.entry name.new result) }
         ensures path { IfOk result (λ found. IfSome found (λ count.
             (count ≤ 1024) × IsPath (take count name.new) × IsAfter after.entry (take count name.new))) }
-        ensures same { Told H.tells (Quiet self.old self.new) }
         ensures cause { HasCause self.old.faults self.new.faults result }
     {
         self.host.next_name(after, name)
@@ -225,8 +193,7 @@ impl<H: Host> Staging<H> {
 
     /// Says bytes. Where it fails, a front of them is said. Each picture stands for what the volume stands for.
     pub fn say(&mut self, bytes: &[u8]) -> Result<(), Failed>
-        ensures says { Told H.tells (Says (is_ok result) bytes.now self.old self.new) }
-        ensures pictures { Told H.tells (Since self.old self.new (SaysFront bytes.now self.old)) }
+        ensures says { Told H.tells (SaysOnly bytes.now self.old self.new result) }
         ensures cause { HasCause self.old.faults self.new.faults result }
     {
         self.host.say(bytes)

@@ -1,13 +1,13 @@
 // The states of a journal, each of which owns the host.
-ghost use Rattle.std.specs.Prelude.{◌≡◌, ◌≤◌, ◌+◌, [], ◌∷◌, ◌++◌, true, IfOk, IfErr, OnOk, Some, None};
-ghost use Rattle.tl_model.specs.Causes.{Rose};
-ghost use Rattle.tl_model.specs.Seen.{Told, Since};
+ghost use Rattle.std.specs.Prelude.{◌≡◌, [], ◌∷◌, ◌++◌, true, IfOk, Some, None};
+ghost use Rattle.tl_model.specs.Causes.{HasCause};
+ghost use Rattle.tl_model.specs.Seen.{Told};
 ghost use Rattle.tl_model.specs.Volume.{at};
-ghost use Rattle.tl_journal_text.specs.Stand.{stand, tree_of, Stays, IsBeforeOrAfter};
-ghost use Rattle.tl_journal_text.specs.Records.{Remove, Write, is_outside, after};
+ghost use Rattle.tl_journal_text.specs.Stand.{stand, tree_of, Stays};
+ghost use Rattle.tl_journal_text.specs.Records.{Remove, Write, is_outside};
 ghost use Rattle.tl_journal_text.specs.Slots.{open_slot};
-ghost use Rattle.tl_journal.specs.States.{IsClean, IsStaged, IsCommitted, IsRested, IsPending, pending, spare_body, staged};
-ghost use Rattle.tl_journal.specs.Touching.{TouchesOnly};
+ghost use Rattle.tl_journal.specs.States.{IsClean, spare_body, staged};
+ghost use Rattle.tl_journal.specs.Spent.{left_by, Stages, Commits, HasCommitted, CarriesOut, Rests};
 
 use crate::lost::{HostFault, Lost};
 use crate::{gate, resume, staging};
@@ -131,16 +131,8 @@ impl<H: Host> Clean<H> {
     pub fn stage(self) -> Result<Staging<H>, Lost<H, HostFault>>
         ensures empty { Told H.tells (IfOk result (λ staging. staged staging ≡ [])) }
         ensures spare { Told H.tells (IfOk result (λ staging. at staging.present.held (spare_body staging.present.held) ≡ Some [])) }
-        ensures tree { Told H.tells (IfOk result (λ staging. tree_of staging.present.held ≡ tree_of self.present.held)) }
-        ensures stays { Told H.tells (IfOk result (λ staging. Stays self staging)) }
-        ensures stays_err { Told H.tells (IfErr result (λ lost. Stays self (H.seen lost.host))) }
-        ensures touches { Told H.tells (IfOk result (λ staging. TouchesOnly (IsStaged (open_slot self.present.held)) self staging)) }
-        ensures touches_err { Told H.tells (IfErr result (λ lost. TouchesOnly (IsStaged (open_slot self.present.held)) self (H.seen lost.host))) }
-        ensures syncs { Told H.tells (IfOk result (λ staging. staging.syncs ≡ self.syncs)) }
-        ensures syncs_err { Told H.tells (IfErr result (λ lost. (H.seen lost.host).syncs ≡ self.syncs)) }
-        ensures later { IfOk result (λ staging. self.faults ≤ staging.faults) }
-        ensures later_err { IfErr result (λ lost. self.faults ≤ (H.seen lost.host).faults) }
-        ensures cause { IfErr result (λ lost. Rose self.faults (H.seen lost.host).faults) }
+        ensures stages { Told H.tells (Stages self (left_by H.seen result)) }
+        ensures cause { HasCause self.faults (left_by H.seen result).faults result }
     {
         let mut host = self.host;
         let opened = self.opened;
@@ -158,16 +150,8 @@ impl<H: Host> Clean<H> {
     /// where the host's faults rose.
     pub fn rest(self) -> Result<Clean<H>, Lost<H, HostFault>>
         ensures shut { Told H.tells (IfOk result (λ clean. open_slot clean.present.held ≡ None)) }
-        ensures tree { Told H.tells (IfOk result (λ clean. tree_of clean.present.held ≡ tree_of self.present.held)) }
-        ensures stays { Told H.tells (IfOk result (λ clean. Stays self clean)) }
-        ensures stays_err { Told H.tells (IfErr result (λ lost. Stays self (H.seen lost.host))) }
-        ensures touches { Told H.tells (IfOk result (λ clean. TouchesOnly (IsRested (open_slot self.present.held)) self clean)) }
-        ensures touches_err { Told H.tells (IfErr result (λ lost. TouchesOnly (IsRested (open_slot self.present.held)) self (H.seen lost.host))) }
-        ensures syncs { Told H.tells (IfOk result (λ clean. clean.syncs ≤ self.syncs + 2)) }
-        ensures syncs_err { Told H.tells (IfErr result (λ lost. (H.seen lost.host).syncs ≤ self.syncs + 2)) }
-        ensures later { IfOk result (λ clean. self.faults ≤ clean.faults) }
-        ensures later_err { IfErr result (λ lost. self.faults ≤ (H.seen lost.host).faults) }
-        ensures cause { IfErr result (λ lost. Rose self.faults (H.seen lost.host).faults) }
+        ensures rests { Told H.tells (Rests self (left_by H.seen result)) }
+        ensures cause { HasCause self.faults (left_by H.seen result).faults result }
     {
         let mut host = self.host;
         match self.opened {
@@ -198,16 +182,8 @@ impl<H: Host> Staging<H> {
     pub fn stage_remove(self, path: &Path) -> Result<Staging<H>, Lost<H, HostFault>>
         requires { is_outside path.now ≡ true }
         ensures added { Told H.tells (IfOk result (λ staging. staged staging ≡ staged self ++ Remove path.now ∷ [])) }
-        ensures tree { Told H.tells (IfOk result (λ staging. tree_of staging.present.held ≡ tree_of self.present.held)) }
-        ensures stays { Told H.tells (IfOk result (λ staging. Stays self staging)) }
-        ensures stays_err { Told H.tells (IfErr result (λ lost. Stays self (H.seen lost.host))) }
-        ensures touches { Told H.tells (IfOk result (λ staging. TouchesOnly (IsStaged (open_slot self.present.held)) self staging)) }
-        ensures touches_err { Told H.tells (IfErr result (λ lost. TouchesOnly (IsStaged (open_slot self.present.held)) self (H.seen lost.host))) }
-        ensures syncs { Told H.tells (IfOk result (λ staging. staging.syncs ≡ self.syncs)) }
-        ensures syncs_err { Told H.tells (IfErr result (λ lost. (H.seen lost.host).syncs ≡ self.syncs)) }
-        ensures later { IfOk result (λ staging. self.faults ≤ staging.faults) }
-        ensures later_err { IfErr result (λ lost. self.faults ≤ (H.seen lost.host).faults) }
-        ensures cause { IfErr result (λ lost. Rose self.faults (H.seen lost.host).faults) }
+        ensures stages { Told H.tells (Stages self (left_by H.seen result)) }
+        ensures cause { HasCause self.faults (left_by H.seen result).faults result }
     {
         let mut host = self.host;
         let opened = self.opened;
@@ -225,16 +201,8 @@ impl<H: Host> Staging<H> {
     pub fn stage_write(self, path: &Path, bytes: &[u8]) -> Result<Staging<H>, Lost<H, HostFault>>
         requires { is_outside path.now ≡ true }
         ensures added { Told H.tells (IfOk result (λ staging. staged staging ≡ staged self ++ Write path.now bytes.now ∷ [])) }
-        ensures tree { Told H.tells (IfOk result (λ staging. tree_of staging.present.held ≡ tree_of self.present.held)) }
-        ensures stays { Told H.tells (IfOk result (λ staging. Stays self staging)) }
-        ensures stays_err { Told H.tells (IfErr result (λ lost. Stays self (H.seen lost.host))) }
-        ensures touches { Told H.tells (IfOk result (λ staging. TouchesOnly (IsStaged (open_slot self.present.held)) self staging)) }
-        ensures touches_err { Told H.tells (IfErr result (λ lost. TouchesOnly (IsStaged (open_slot self.present.held)) self (H.seen lost.host))) }
-        ensures syncs { Told H.tells (IfOk result (λ staging. staging.syncs ≡ self.syncs)) }
-        ensures syncs_err { Told H.tells (IfErr result (λ lost. (H.seen lost.host).syncs ≡ self.syncs)) }
-        ensures later { IfOk result (λ staging. self.faults ≤ staging.faults) }
-        ensures later_err { IfErr result (λ lost. self.faults ≤ (H.seen lost.host).faults) }
-        ensures cause { IfErr result (λ lost. Rose self.faults (H.seen lost.host).faults) }
+        ensures stages { Told H.tells (Stages self (left_by H.seen result)) }
+        ensures cause { HasCause self.faults (left_by H.seen result).faults result }
     {
         let mut host = self.host;
         let opened = self.opened;
@@ -252,20 +220,9 @@ impl<H: Host> Staging<H> {
     /// the return at `Ok` on for the latter. It touches the body that was staged, the gate, and where the gate was closed the
     /// other body, and syncs twice. `HostFault` comes only where the host's faults rose.
     pub fn commit(self) -> Result<Committed<H>, Lost<H, HostFault>>
-        ensures stands { Told H.tells (IfOk result (λ committed. stand committed.present.held ≡ Some (after (staged self) (tree_of self.present.held)))) }
-        ensures records { Told H.tells (IfOk result (λ committed. pending committed.present.held ≡ staged self)) }
-        ensures rests { Told H.tells (IfOk result (λ committed. Stays committed committed)) }
-        ensures said { Told H.tells (IfOk result (λ committed. committed.present.said ≡ self.present.said)) }
-        ensures said_err { Told H.tells (IfErr result (λ lost. (H.seen lost.host).present.said ≡ self.present.said)) }
-        ensures pictures { Told H.tells (IfOk result (λ committed. Since self committed (IsBeforeOrAfter (staged self) self))) }
-        ensures pictures_err { Told H.tells (IfErr result (λ lost. Since self (H.seen lost.host) (IsBeforeOrAfter (staged self) self))) }
-        ensures touches { Told H.tells (IfOk result (λ committed. TouchesOnly (IsCommitted (open_slot self.present.held)) self committed)) }
-        ensures touches_err { Told H.tells (IfErr result (λ lost. TouchesOnly (IsCommitted (open_slot self.present.held)) self (H.seen lost.host))) }
-        ensures syncs { Told H.tells (IfOk result (λ committed. committed.syncs ≤ self.syncs + 2)) }
-        ensures syncs_err { Told H.tells (IfErr result (λ lost. (H.seen lost.host).syncs ≤ self.syncs + 2)) }
-        ensures later { IfOk result (λ committed. self.faults ≤ committed.faults) }
-        ensures later_err { IfErr result (λ lost. self.faults ≤ (H.seen lost.host).faults) }
-        ensures cause { IfErr result (λ lost. Rose self.faults (H.seen lost.host).faults) }
+        ensures committed { Told H.tells (IfOk result (HasCommitted self)) }
+        ensures commits { Told H.tells (Commits self (left_by H.seen result)) }
+        ensures cause { HasCause self.faults (left_by H.seen result).faults result }
     {
         let mut host = self.host;
         let opened = self.opened;
@@ -287,15 +244,8 @@ impl<H: Host> Committed<H> {
     /// host's faults rose.
     pub fn apply(self) -> Result<Applied<H>, Lost<H, HostFault>>
         ensures tree { Told H.tells (IfOk result (λ applied. stand self.present.held ≡ Some (tree_of applied.present.held))) }
-        ensures stays { Told H.tells (IfOk result (λ applied. Stays self applied)) }
-        ensures stays_err { Told H.tells (IfErr result (λ lost. Stays self (H.seen lost.host))) }
-        ensures touches { Told H.tells (IfOk result (λ applied. TouchesOnly (IsPending self.present.held) self applied)) }
-        ensures touches_err { Told H.tells (IfErr result (λ lost. TouchesOnly (IsPending self.present.held) self (H.seen lost.host))) }
-        ensures syncs { Told H.tells (IfOk result (λ applied. applied.syncs ≡ self.syncs)) }
-        ensures syncs_err { Told H.tells (IfErr result (λ lost. (H.seen lost.host).syncs ≡ self.syncs)) }
-        ensures later { IfOk result (λ applied. self.faults ≤ applied.faults) }
-        ensures later_err { IfErr result (λ lost. self.faults ≤ (H.seen lost.host).faults) }
-        ensures cause { IfErr result (λ lost. Rose self.faults (H.seen lost.host).faults) }
+        ensures carries_out { Told H.tells (CarriesOut self (left_by H.seen result)) }
+        ensures cause { HasCause self.faults (left_by H.seen result).faults result }
     {
         let mut host = self.host;
         let slot = self.slot;

@@ -1,12 +1,10 @@
 // A write whose bytes come piece by piece.
-ghost use Rattle.std.specs.Prelude.{◌≡◌, ◌≤◌, ◌-◌, ℕ, List, [], ◌∷◌, ◌++◌, length, true, IfOk, IfErr};
-ghost use Rattle.tl_model.specs.Causes.{Rose};
+ghost use Rattle.std.specs.Prelude.{◌≡◌, ◌≤◌, ◌-◌, ℕ, List, [], ◌∷◌, ◌++◌, length, true, IfOk};
+ghost use Rattle.tl_model.specs.Causes.{HasCause};
 ghost use Rattle.tl_model.specs.Seen.{Told};
-ghost use Rattle.tl_journal_text.specs.Stand.{tree_of, Stays};
 ghost use Rattle.tl_journal_text.specs.Records.{Write, is_outside};
-ghost use Rattle.tl_journal_text.specs.Slots.{open_slot};
-ghost use Rattle.tl_journal.specs.States.{IsStaged, staged, coming};
-ghost use Rattle.tl_journal.specs.Touching.{TouchesOnly};
+ghost use Rattle.tl_journal.specs.States.{staged, coming};
+ghost use Rattle.tl_journal.specs.Spent.{left_writing, Stages};
 
 use crate::lost::{HostFault, Lost};
 use crate::staging;
@@ -47,16 +45,8 @@ impl<H: Host> Staging<H> {
         requires { is_outside path.now ≡ true }
         ensures left { IfOk result (λ writing. writing.left ≡ len) }
         ensures coming { Told H.tells (IfOk result (λ writing. (bytes : List ℕ) → length bytes ≡ len → coming writing bytes ≡ staged self ++ Write path.now bytes ∷ [])) }
-        ensures tree { Told H.tells (IfOk result (λ writing. tree_of writing.seen.present.held ≡ tree_of self.present.held)) }
-        ensures stays { Told H.tells (IfOk result (λ writing. Stays self writing.seen)) }
-        ensures stays_err { Told H.tells (IfErr result (λ lost. Stays self (H.seen lost.host))) }
-        ensures touches { Told H.tells (IfOk result (λ writing. TouchesOnly (IsStaged (open_slot self.present.held)) self writing.seen)) }
-        ensures touches_err { Told H.tells (IfErr result (λ lost. TouchesOnly (IsStaged (open_slot self.present.held)) self (H.seen lost.host))) }
-        ensures syncs { Told H.tells (IfOk result (λ writing. writing.seen.syncs ≡ self.syncs)) }
-        ensures syncs_err { Told H.tells (IfErr result (λ lost. (H.seen lost.host).syncs ≡ self.syncs)) }
-        ensures later { IfOk result (λ writing. self.faults ≤ writing.seen.faults) }
-        ensures later_err { IfErr result (λ lost. self.faults ≤ (H.seen lost.host).faults) }
-        ensures cause { IfErr result (λ lost. Rose self.faults (H.seen lost.host).faults) }
+        ensures stages { Told H.tells (Stages self (left_writing H.seen result)) }
+        ensures cause { HasCause self.faults (left_writing H.seen result).faults result }
     {
         let mut host = self.host;
         let opened = self.opened;
@@ -81,16 +71,8 @@ impl<H: Host> Writing<H> {
         requires { length bytes.now ≤ self.left }
         ensures left { IfOk result (λ writing. writing.left ≡ self.left - length bytes.now) }
         ensures coming { Told H.tells (IfOk result (λ writing. (rest : List ℕ) → coming writing rest ≡ coming self (bytes.now ++ rest))) }
-        ensures tree { Told H.tells (IfOk result (λ writing. tree_of writing.seen.present.held ≡ tree_of self.seen.present.held)) }
-        ensures stays { Told H.tells (IfOk result (λ writing. Stays self.seen writing.seen)) }
-        ensures stays_err { Told H.tells (IfErr result (λ lost. Stays self.seen (H.seen lost.host))) }
-        ensures touches { Told H.tells (IfOk result (λ writing. TouchesOnly (IsStaged (open_slot self.seen.present.held)) self.seen writing.seen)) }
-        ensures touches_err { Told H.tells (IfErr result (λ lost. TouchesOnly (IsStaged (open_slot self.seen.present.held)) self.seen (H.seen lost.host))) }
-        ensures syncs { Told H.tells (IfOk result (λ writing. writing.seen.syncs ≡ self.seen.syncs)) }
-        ensures syncs_err { Told H.tells (IfErr result (λ lost. (H.seen lost.host).syncs ≡ self.seen.syncs)) }
-        ensures later { IfOk result (λ writing. self.seen.faults ≤ writing.seen.faults) }
-        ensures later_err { IfErr result (λ lost. self.seen.faults ≤ (H.seen lost.host).faults) }
-        ensures cause { IfErr result (λ lost. Rose self.seen.faults (H.seen lost.host).faults) }
+        ensures stages { Told H.tells (Stages self.seen (left_writing H.seen result)) }
+        ensures cause { HasCause self.seen.faults (left_writing H.seen result).faults result }
     {
         let mut host = self.host;
         let opened = self.opened;

@@ -8,8 +8,9 @@ use Rattle.tl_model.specs.Pictures.{since_weaker, since_join, reads_back}
 use Rattle.tl_journal_text.specs.Records.{Record, is_outside}
 use Rattle.tl_journal_text.specs.Stand.{tree_of, Stays}
 use Rattle.tl_journal.specs.States.{staged}
+use Rattle.tl_journal.specs.Spent.{Stages}
 use Rattle.tl_tree.specs.declared.arrange.Coming.{Coming}
-use Rattle.tl_tree.specs.Staged.{Waits, Stages, FilesOutside, files_of, file_of, writes_of, write_of}
+use Rattle.tl_tree.specs.Staged.{Waits, Adds, FilesOutside, files_of, file_of, writes_of, write_of}
 
 -- what stood for a tree still stands for it
 pub stays_join : (first mid last : Seen) → Stays first mid → Stays mid last → Stays first last
@@ -17,11 +18,11 @@ stays_join first mid last far near =
     let here = far.present mid.present.held mid.present.said (reads_back mid) in
     since_join first mid last _ far (since_weaker mid last _ _ (λ image said picture. (picture.0 ∙ here.0, picture.1 ∙ here.1)) near)
 
--- one call
-pub waits_one : (old new : Seen) → Stays old new → new.syncs ≡ old.syncs → Waits old new
-waits_one old new stays syncs = record {
-  stays = λ first far. stays_join first old new far stays;
-  syncs = syncs;
+-- one call that stages
+pub waits_one : (old new : Seen) → Stages old new → Waits old new
+waits_one old new stages = record {
+  stays = λ first far. stays_join first old new far stages.stays;
+  syncs = stages.syncs;
 }
 
 -- no call
@@ -34,26 +35,26 @@ waits_join old mid new far near = record {
   syncs = near.syncs ∙ far.syncs;
 }
 
-pub stages_none : (s : Seen) → Stages [] s s
-stages_none s = record { added = sym (append-nil (staged s)); tree = refl; waits = waits_none s }
+pub adds_none : (s : Seen) → Adds [] s s
+adds_none s = record { added = sym (append-nil (staged s)); tree = refl; waits = waits_none s }
 
-pub stages_join : (xs ys : List Record) (old mid new : Seen) → Stages xs old mid → Stages ys mid new → Stages (xs ++ ys) old new
-stages_join xs ys old mid new far near = record {
+pub adds_join : (xs ys : List Record) (old mid new : Seen) → Adds xs old mid → Adds ys mid new → Adds (xs ++ ys) old new
+adds_join xs ys old mid new far near = record {
   added = near.added ∙ ap (λ (rs : List Record). rs ++ ys) far.added ∙ append_assoc (staged old) xs ys;
   tree = near.tree ∙ far.tree;
   waits = waits_join old mid new far.waits near.waits;
 }
 
 -- one record
-pub stages_one : (r : Record) (old new : Seen) → staged new ≡ staged old ++ r ∷ [] → tree_of new.present.held ≡ tree_of old.present.held → Stays old new → new.syncs ≡ old.syncs → Stages (r ∷ []) old new
-stages_one r old new added tree stays syncs = record { added = added; tree = tree; waits = waits_one old new stays syncs }
+pub adds_one : (r : Record) (old new : Seen) → staged new ≡ staged old ++ r ∷ [] → Stages old new → Adds (r ∷ []) old new
+adds_one r old new added stages = record { added = added; tree = stages.tree; waits = waits_one old new stages }
 
 -- the records of a list, one element more
-pub stages_more : {X : Type 0} (f : X → Record) (xs : List X) (i : ℕ) (x : X) (old mid new : Seen) → i < length xs → x ≡ get_or xs i x
-    → Stages (map f (take i xs)) old mid → Stages (f x ∷ []) mid new → Stages (map f (take (i + 1) xs)) old new
-stages_more f xs i x old mid new lt is far near =
+pub adds_more : {X : Type 0} (f : X → Record) (xs : List X) (i : ℕ) (x : X) (old mid new : Seen) → i < length xs → x ≡ get_or xs i x
+    → Adds (map f (take i xs)) old mid → Adds (f x ∷ []) mid new → Adds (map f (take (i + 1) xs)) old new
+adds_more f xs i x old mid new lt is far near =
     let more : map f (take (i + 1) xs) ≡ map f (take i xs) ++ f x ∷ [] = map_more f xs i x lt ∙ ap (λ y. map f (take i xs) ++ f y ∷ []) (sym is) in
-    subst (λ (rs : List Record). Stages rs old new) (sym more) (stages_join (map f (take i xs)) (f x ∷ []) old mid new far near)
+    subst (λ (rs : List Record). Adds rs old new) (sym more) (adds_join (map f (take i xs)) (f x ∷ []) old mid new far near)
 
 map_take_more : (files : List Coming) (i : ℕ) (file : Coming) → i < length files → file ≡ get_or files i file
     → writes_of (files_of (take (i + 1) files)) ≡ writes_of (files_of (take i files)) ++ write_of (file_of file) ∷ []
@@ -62,11 +63,11 @@ map_take_more files i file lt is =
     ∙ map-append write_of (files_of (take i files)) (file_of file ∷ [])
 
 -- the records that write files, one more
-pub stages_files_more : (files : List Coming) (i : ℕ) (file : Coming) (old mid new : Seen) → i < length files → file ≡ get_or files i file
-    → Stages (writes_of (files_of (take i files))) old mid → Stages (write_of (file_of file) ∷ []) mid new → Stages (writes_of (files_of (take (i + 1) files))) old new
-stages_files_more files i file old mid new lt is far near =
-    subst (λ (rs : List Record). Stages rs old new) (sym (map_take_more files i file lt is))
-    (stages_join (writes_of (files_of (take i files))) (write_of (file_of file) ∷ []) old mid new far near)
+pub adds_files_more : (files : List Coming) (i : ℕ) (file : Coming) (old mid new : Seen) → i < length files → file ≡ get_or files i file
+    → Adds (writes_of (files_of (take i files))) old mid → Adds (write_of (file_of file) ∷ []) mid new → Adds (writes_of (files_of (take (i + 1) files))) old new
+adds_files_more files i file old mid new lt is far near =
+    subst (λ (rs : List Record). Adds rs old new) (sym (map_take_more files i file lt is))
+    (adds_join (writes_of (files_of (take i files))) (write_of (file_of file) ∷ []) old mid new far near)
 
 -- a file of some that may be written
 pub files_outside_at : (files : List Coming) (i : ℕ) (file : Coming) → i < length files → file ≡ get_or files i file → FilesOutside (files_of files) → is_outside file.path.now ≡ true

@@ -59,13 +59,13 @@ pub record Waits (old new : Seen) : Type 0 where
   pub syncs : new.syncs ≡ old.syncs
 
 -- these records more are staged, and nothing else has changed
-pub record Stages (records : List Record) (old new : Seen) : Type 0 where
+pub record Adds (records : List Record) (old new : Seen) : Type 0 where
   pub added : staged new ≡ staged old ++ records
   pub tree : tree_of new.present.held ≡ tree_of old.present.held
   pub waits : Waits old new
 
 -- these records are staged since a volume at rest, and nothing else has changed
-pub record IsStaged (records : List Record) (old new : Seen) : Type 0 where
+pub record HasStaged (records : List Record) (old new : Seen) : Type 0 where
   pub staged : staged new ≡ records
   pub tree : tree_of new.present.held ≡ tree_of old.present.held
   pub stays : Stays old new
@@ -79,19 +79,12 @@ pub record IsMade (records : List Record) (old new : Seen) : Type 0 where
   pub pictures : Since old new (IsBeforeOrAfter records old)
   pub syncs : new.syncs ≤ old.syncs + 2
 
--- a fault came while they were
+-- the records were being made stable and carried out, at whichever moment it ended
 pub record IsHalted (records : List Record) (old new : Seen) : Type 0 where
   pub pictures : Since old new (IsBeforeOrAfter records old)
   pub syncs : new.syncs ≤ old.syncs + 2
 
--- the bytes were said
-pub record IsSaid (bytes : List ℕ) (old new : Seen) : Type 0 where
-  pub held : new.present.held ≡ old.present.held
-  pub said : new.present.said ≡ old.present.said ++ bytes
-  pub pictures : Since old new (SaysFront bytes old)
-  pub syncs : new.syncs ≡ old.syncs
-
--- a fault came while they were
+-- a front of the bytes was said, and nothing else has changed
 pub record IsFrontSaid (bytes : List ℕ) (old new : Seen) : Type 0 where
   pub held : new.present.held ≡ old.present.held
   pub count : ℕ

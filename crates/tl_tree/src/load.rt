@@ -1,7 +1,7 @@
 //! The reading of a tree's database.
-ghost use Rattle.std.specs.Prelude.{◌≡◌, ◌≤◌, ℕ, List, IfOk, IfErr, MatchResult};
+ghost use Rattle.std.specs.Prelude.{◌≡◌, ℕ, List, IfOk, IfErr};
 ghost use Rattle.tl_model.specs.Acks.{IsPlain};
-ghost use Rattle.tl_model.specs.Causes.{Rose};
+ghost use Rattle.tl_model.specs.Causes.{HasCauseOf};
 ghost use Rattle.tl_model.specs.Seen.{Told, Quiet};
 ghost use Rattle.tl_journal_text.specs.Stand.{tree_of};
 ghost use Rattle.tl_db.specs.Reading.{IsRead, IsDbError};
@@ -24,8 +24,7 @@ fn read_text<H: Host>(alloc: Global, journal: &mut Clean<H>) -> Result<Vec<u8>, 
     ensures text { Told H.tells (IfOk result (λ text. text.items ≡ database_text (tree_of journal.old.present.held))) }
     ensures error { Told H.tells (IfErr result (IsTreeError (database_text (tree_of journal.old.present.held)))) }
     ensures same { Told H.tells (Quiet journal.old journal.new) }
-    ensures later { journal.old.faults ≤ journal.new.faults }
-    ensures cause { IfErr result (λ error. error ≡ LoadFault → Rose journal.old.faults journal.new.faults) }
+    ensures cause { HasCauseOf (λ error. error ≡ LoadFault) journal.old.faults journal.new.faults result }
 {
     let database = PathRef::known("tlpkg/texlive.tlpdb");
     match journal.read_file(alloc, database, MOST_BYTES) {
@@ -56,8 +55,7 @@ pub fn read_entries<H: Host>(alloc: Global, journal: &mut Clean<H>) -> Result<Db
     ensures db { Told H.tells (IfOk result (IsRead (database_text (tree_of journal.old.present.held)))) }
     ensures error { Told H.tells (IfErr result (IsTreeError (database_text (tree_of journal.old.present.held)))) }
     ensures same { Told H.tells (Quiet journal.old journal.new) }
-    ensures later { journal.old.faults ≤ journal.new.faults }
-    ensures cause { IfErr result (λ error. error ≡ LoadFault → Rose journal.old.faults journal.new.faults) }
+    ensures cause { HasCauseOf (λ error. error ≡ LoadFault) journal.old.faults journal.new.faults result }
 {
     let text = match read_text(alloc, journal) {
         Ok(text) => text,
@@ -80,8 +78,7 @@ pub fn canonical_database<H: Host>(
     ensures plain { IfOk result (λ text. IsPlain text.items) }
     ensures error { Told H.tells (IfErr result (IsTreeError (database_text (tree_of journal.old.present.held)))) }
     ensures same { Told H.tells (Quiet journal.old journal.new) }
-    ensures later { journal.old.faults ≤ journal.new.faults }
-    ensures cause { IfErr result (λ error. error ≡ LoadFault → Rose journal.old.faults journal.new.faults) }
+    ensures cause { HasCauseOf (λ error. error ≡ LoadFault) journal.old.faults journal.new.faults result }
 {
     let text = match read_text(alloc, journal) {
         Ok(text) => text,

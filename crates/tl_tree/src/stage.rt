@@ -1,12 +1,13 @@
 //! A step over the journal.
-ghost use Rattle.std.specs.Prelude.{◌≡◌, ◌≤◌, ◌+◌, [], ◌∷◌, IfOk, IfErr};
-ghost use Rattle.tl_model.specs.Causes.{Rose};
+ghost use Rattle.std.specs.Prelude.{◌≡◌, ◌≤◌, ◌+◌, [], ◌∷◌, ◌++◌, IfOk, IfErr};
+ghost use Rattle.tl_model.specs.Causes.{HasCause};
 ghost use Rattle.tl_model.specs.Seen.{Told};
 ghost use Rattle.tl_model.specs.Acks.{IsLabel};
 ghost use Rattle.tl_model.specs.Trace.{Step, Trace, Cut};
 ghost use Rattle.tl_journal_text.specs.Stand.{stand, tree_of, Stays};
 ghost use Rattle.tl_journal.specs.States.{staged};
-ghost use Rattle.tl_tree.specs.Staged.{files_of, AreOutside, FilesOutside, removes_of, writes_of, records_for, Waits, Stages, IsStaged, IsMade, IsHalted, IsSaid, IsFrontSaid, next_tree};
+ghost use Rattle.tl_journal.specs.Spent.{left_by};
+ghost use Rattle.tl_tree.specs.Staged.{files_of, AreOutside, FilesOutside, removes_of, writes_of, records_for, Waits, Adds, HasStaged, IsMade, IsHalted, IsFrontSaid, next_tree};
 
 use crate::arrange::{Coming, Work};
 use tl_host::Host;
@@ -18,11 +19,9 @@ fn stage_removes<H: Host>(
     names: &[Path],
 ) -> Result<Staging<H>, Lost<H, HostFault>>
     requires { AreOutside names.now }
-    ensures staged { Told H.tells (IfOk result (λ more. Stages (removes_of names.now) staging more)) }
-    ensures waits { Told H.tells (IfErr result (λ lost. Waits staging (H.seen lost.host))) }
-    ensures later { IfOk result (λ more. staging.faults ≤ more.faults) }
-    ensures later_err { IfErr result (λ lost. staging.faults ≤ (H.seen lost.host).faults) }
-    ensures cause { IfErr result (λ lost. Rose staging.faults (H.seen lost.host).faults) }
+    ensures staged { Told H.tells (IfOk result (λ more. Adds (removes_of names.now) staging more)) }
+    ensures waits { Told H.tells (Waits staging (left_by H.seen result)) }
+    ensures cause { HasCause staging.faults (left_by H.seen result).faults result }
 {
     let mut staging = staging;
     for name in names {
@@ -39,11 +38,9 @@ fn stage_writes<H: Host>(
     files: &[Coming<'_>],
 ) -> Result<Staging<H>, Lost<H, HostFault>>
     requires { FilesOutside (files_of files.now) }
-    ensures staged { Told H.tells (IfOk result (λ more. Stages (writes_of (files_of files.now)) staging more)) }
-    ensures waits { Told H.tells (IfErr result (λ lost. Waits staging (H.seen lost.host))) }
-    ensures later { IfOk result (λ more. staging.faults ≤ more.faults) }
-    ensures later_err { IfErr result (λ lost. staging.faults ≤ (H.seen lost.host).faults) }
-    ensures cause { IfErr result (λ lost. Rose staging.faults (H.seen lost.host).faults) }
+    ensures staged { Told H.tells (IfOk result (λ more. Adds (writes_of (files_of files.now)) staging more)) }
+    ensures waits { Told H.tells (Waits staging (left_by H.seen result)) }
+    ensures cause { HasCause staging.faults (left_by H.seen result).faults result }
 {
     let mut staging = staging;
     for file in files {
@@ -59,12 +56,10 @@ fn stage_writes<H: Host>(
 fn stage_all<H: Host>(journal: Clean<H>, work: &Work<'_>) -> Result<Staging<H>, Lost<H, HostFault>>
     requires names { AreOutside work.now.removes.items }
     requires files { FilesOutside (files_of work.now.writes.items) }
-    ensures staged { Told H.tells (IfOk result (λ staging. IsStaged (records_for work.now.removes.items (files_of work.now.writes.items)) journal staging)) }
-    ensures stays { Told H.tells (IfErr result (λ lost. Stays journal (H.seen lost.host))) }
-    ensures syncs { Told H.tells (IfErr result (λ lost. (H.seen lost.host).syncs ≡ journal.syncs)) }
-    ensures later { IfOk result (λ staging. journal.faults ≤ staging.faults) }
-    ensures later_err { IfErr result (λ lost. journal.faults ≤ (H.seen lost.host).faults) }
-    ensures cause { IfErr result (λ lost. Rose journal.faults (H.seen lost.host).faults) }
+    ensures staged { Told H.tells (IfOk result (λ staging. HasStaged (records_for work.now.removes.items (files_of work.now.writes.items)) journal staging)) }
+    ensures stays { Told H.tells (Stays journal (left_by H.seen result)) }
+    ensures syncs { Told H.tells ((left_by H.seen result).syncs ≡ journal.syncs) }
+    ensures cause { HasCause journal.faults (left_by H.seen result).faults result }
 {
     let empty = match journal.stage() {
         Ok(empty) => empty,
@@ -80,10 +75,8 @@ fn stage_all<H: Host>(journal: Clean<H>, work: &Work<'_>) -> Result<Staging<H>, 
 // Makes what is staged stable, and carries it out.
 fn make<H: Host>(staging: Staging<H>) -> Result<Clean<H>, Lost<H, HostFault>>
     ensures made { Told H.tells (IfOk result (λ clean. IsMade (staged staging) staging clean)) }
-    ensures halted { Told H.tells (IfErr result (λ lost. IsHalted (staged staging) staging (H.seen lost.host))) }
-    ensures later { IfOk result (λ clean. staging.faults ≤ clean.faults) }
-    ensures later_err { IfErr result (λ lost. staging.faults ≤ (H.seen lost.host).faults) }
-    ensures cause { IfErr result (λ lost. Rose staging.faults (H.seen lost.host).faults) }
+    ensures halted { Told H.tells (IsHalted (staged staging) staging (left_by H.seen result)) }
+    ensures cause { HasCause staging.faults (left_by H.seen result).faults result }
 {
     let committed = match staging.commit() {
         Ok(committed) => committed,
@@ -97,11 +90,9 @@ fn make<H: Host>(staging: Staging<H>) -> Result<Clean<H>, Lost<H, HostFault>>
 
 // Says the line that acknowledges a step.
 fn acknowledge<H: Host>(journal: Clean<H>, label: &[u8]) -> Result<Clean<H>, Lost<H, HostFault>>
-    ensures said { Told H.tells (IfOk result (λ clean. IsSaid label.now journal clean)) }
-    ensures front { Told H.tells (IfErr result (λ lost. IsFrontSaid label.now journal (H.seen lost.host))) }
-    ensures later { IfOk result (λ clean. journal.faults ≤ clean.faults) }
-    ensures later_err { IfErr result (λ lost. journal.faults ≤ (H.seen lost.host).faults) }
-    ensures cause { IfErr result (λ lost. Rose journal.faults (H.seen lost.host).faults) }
+    ensures said { Told H.tells (IfOk result (λ clean. clean.present.said ≡ journal.present.said ++ label.now)) }
+    ensures front { Told H.tells (IsFrontSaid label.now journal (left_by H.seen result)) }
+    ensures cause { HasCause journal.faults (left_by H.seen result).faults result }
 {
     let mut journal = journal;
     match journal.say(label) {
@@ -125,11 +116,8 @@ pub fn carry_out<H: Host>(
     ensures tree { Told H.tells (IfOk result (λ clean. tree_of clean.present.held ≡ next_tree work.now journal)) }
     ensures trace { Told H.tells (IfOk result (λ clean. Trace stand journal clean (tree_of journal.present.held) (Step (next_tree work.now journal) label.now ∷ []))) }
     ensures cut { Told H.tells (IfErr result (λ lost. Cut stand journal (H.seen lost.host) (tree_of journal.present.held) (Step (next_tree work.now journal) label.now ∷ []))) }
-    ensures syncs { Told H.tells (IfOk result (λ clean. clean.syncs ≤ journal.syncs + 2)) }
-    ensures syncs_err { Told H.tells (IfErr result (λ lost. (H.seen lost.host).syncs ≤ journal.syncs + 2)) }
-    ensures later { IfOk result (λ clean. journal.faults ≤ clean.faults) }
-    ensures later_err { IfErr result (λ lost. journal.faults ≤ (H.seen lost.host).faults) }
-    ensures cause { IfErr result (λ lost. Rose journal.faults (H.seen lost.host).faults) }
+    ensures syncs { Told H.tells ((left_by H.seen result).syncs ≤ journal.syncs + 2) }
+    ensures cause { HasCause journal.faults (left_by H.seen result).faults result }
 {
     journal.stands();
     let staging = match stage_all(journal, work) {

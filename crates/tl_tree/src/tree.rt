@@ -1,11 +1,11 @@
 ghost use Rattle.std.specs.Prelude.{◌≡◌, true, ◌≤◌, ◌+◌, ◌∷◌, [], IfOk, IfErr, is_ok, option_copied};
-ghost use Rattle.tl_model.specs.Causes.{HasCause, Rose};
+ghost use Rattle.tl_model.specs.Causes.{HasCause, HasCauseOf};
 ghost use Rattle.tl_model.specs.Seen.{Told, Quiet, Says};
 ghost use Rattle.tl_model.specs.Trace.{Trace};
 ghost use Rattle.tl_journal_text.specs.Stand.{stand, tree_of};
 ghost use Rattle.tl_db.specs.Reading.{IsRead};
 ghost use Rattle.tl_tree.specs.Owners.{owner_of};
-ghost use Rattle.tl_tree.specs.Planted.{database_text};
+ghost use Rattle.tl_tree.specs.Planted.{database_text, left_tree};
 ghost use Rattle.tl_tree.specs.Changes.{IsChange, has_entries, entries_after, changed};
 ghost use Rattle.tl_tree.specs.Answers.{IsTreeError, IsWithin, IsAllowed, HasLimit, HasBegun, IsUnsynced, IsLostStep, IsStepError, step_of};
 ghost use Rattle.tl_tree.specs.declared.error.TreeError.TheVariants.{HostFault as LoadFault};
@@ -50,12 +50,9 @@ impl<H: Host> Tree<H> {
     /// where the host's faults rose. It reads the database alone, and changes nothing.
     pub fn load(alloc: Global, journal: Clean<H>) -> Result<Tree<H>, Lost<H, TreeError>>
         ensures db { Told H.tells (IfOk result (λ tree. IsRead (database_text (tree_of journal.present.held)) tree.db)) }
-        ensures same { Told H.tells (IfOk result (λ tree. Quiet journal tree.seen)) }
-        ensures later { IfOk result (λ tree. journal.faults ≤ tree.seen.faults) }
         ensures error { Told H.tells (IfErr result (λ lost. IsTreeError (database_text (tree_of journal.present.held)) lost.fault)) }
-        ensures same_err { Told H.tells (IfErr result (λ lost. Quiet journal (H.seen lost.host))) }
-        ensures later_err { IfErr result (λ lost. journal.faults ≤ (H.seen lost.host).faults) }
-        ensures cause { IfErr result (λ lost. lost.fault ≡ LoadFault → Rose journal.faults (H.seen lost.host).faults) }
+        ensures same { Told H.tells (Quiet journal (left_tree H.seen result)) }
+        ensures cause { HasCauseOf (λ lost. lost.fault ≡ LoadFault) journal.faults (left_tree H.seen result).faults result }
     {
         let mut journal = journal;
         match read_entries(alloc, &mut journal) {
@@ -117,16 +114,13 @@ impl<H: Host> Tree<H> {
             ≡ changed self.db change.now.parts (tree_of self.seen.present.held))) }
         ensures trace { Told H.tells (IfOk result (λ tree. Trace stand self.seen tree.seen (tree_of self.seen.present.held)
             (step_of self change.now.parts change.now.label ∷ []))) }
-        ensures syncs { Told H.tells (IfOk result (λ tree. tree.seen.syncs ≤ self.seen.syncs + 2)) }
-        ensures later { IfOk result (λ tree. self.seen.faults ≤ tree.seen.faults) }
         ensures error { IfErr result (λ lost. IsStepError self change.now.parts lost.fault) }
         ensures speaks { IfErr result (λ lost. HasLimit lost.fault → has_entries change.now.parts ≡ true) }
         ensures begun { IfErr result (λ lost. HasBegun self change.now.parts lost.fault) }
         ensures unsynced { Told H.tells (IfErr result (λ lost. IsUnsynced lost.fault self.seen.syncs (H.seen lost.host).syncs)) }
         ensures lost { Told H.tells (IfErr result (λ lost. IsLostStep self change.now.parts change.now.label lost.fault (H.seen lost.host))) }
-        ensures syncs_err { Told H.tells (IfErr result (λ lost. (H.seen lost.host).syncs ≤ self.seen.syncs + 2)) }
-        ensures later_err { IfErr result (λ lost. self.seen.faults ≤ (H.seen lost.host).faults) }
-        ensures cause { IfErr result (λ lost. lost.fault ≡ StepFault → Rose self.seen.faults (H.seen lost.host).faults) }
+        ensures syncs { Told H.tells ((left_tree H.seen result).syncs ≤ self.seen.syncs + 2) }
+        ensures cause { HasCauseOf (λ lost. lost.fault ≡ StepFault) self.seen.faults (left_tree H.seen result).faults result }
     {
         let journal = self.journal;
         let entries = self.entries;

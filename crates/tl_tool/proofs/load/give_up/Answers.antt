@@ -8,11 +8,11 @@ returns-in-Ok-clause-run g c t run tree stood =
     let first = g.H.Host.seen c.args.host in
     let last = c.in-Ok.recovered.journal in
     nothing_paused first last tree run.events
-    (resumed first last tree stood (c.in-Ok.ensures.tree t) (c.stands.ensures.tree t) (c.in-Ok.ensures.said t) (c.in-Ok.ensures.pictures t))
+    (resumed first last tree stood (c.in-Ok.ensures.tree t) (c.stands.ensures.tree t) (c.in-Ok.ensures.resumes t).said (c.in-Ok.ensures.resumes t).pictures)
 
 pub returns-in-HostFault-clause-run : goal.returns-in-HostFault-clause-run
 returns-in-HostFault-clause-run g c t run tree stood =
     let first = g.H.Host.seen c.args.host in
     let last = g.H.Host.seen c.in-Err.field-0.host in
     nothing_cut first last tree run.events
-    (resumed_is_cut first last tree stood (c.in-Err.ensures.stand_err t ∙ stood) (c.in-Err.ensures.said_err t) (c.in-Err.ensures.pictures_err t))
+    (resumed_is_cut first last tree stood ((c.in-Err.ensures.resumes t).stands ∙ stood) (c.in-Err.ensures.resumes t).said (c.in-Err.ensures.resumes t).pictures)

@@ -15,7 +15,7 @@ returns-in-HostFault-clause-run g c t go =
     let last = g.H.Host.seen c.in-Err.field-0.host in
     let tree = tree_of first.present.held in
     let events = (over_database go (database_text tree)).events in
-    paused_cut stand first last tree events (nothing_paused first last tree events (quiet_trace first last tree (c.stands.ensures.tree t) (c.in-Err.ensures.same_err t)))
+    paused_cut stand first last tree events (nothing_paused first last tree events (quiet_trace first last tree (c.stands.ensures.tree t) (c.in-Err.ensures.same t)))
 
 pub returns-in-NoMemory-clause-run : goal.returns-in-NoMemory-clause-run
 returns-in-NoMemory-clause-run g c t go =
@@ -24,7 +24,7 @@ returns-in-NoMemory-clause-run g c t go =
     let mid = s c.in-Err.field-0.host in
     let tree = tree_of first.present.held in
     let run = over_database go (database_text tree) in
-    let quiet = c.in-Err.ensures.same_err t in
+    let quiet = c.in-Err.ensures.same t in
     let stood = c.stands.ensures.tree t in
     acted_after s run c.give_up.result.ending c.give_up.result.state first mid tree (quiet_trace first mid tree stood quiet)
     (c.give_up.ensures.run t run tree (quiet_stands first mid tree stood quiet))
@@ -38,7 +38,7 @@ returns-in-BadDatabase-clause-run g c t go =
     let text = database_text tree in
     let ending = c.refuse_spent.result.ending in
     let state = c.refuse_spent.result.state in
-    let quiet = c.in-Err.ensures.same_err t in
+    let quiet = c.in-Err.ensures.same t in
     let stood = c.stands.ensures.tree t in
     let error = subst (λ (f : TreeError). IsTreeError text f) c.in-BadDatabase.is (c.in-Err.ensures.error t) in
     subst (λ (r : Run). IsActed s r ending state first tree)
@@ -55,7 +55,7 @@ returns-in-TooLarge-clause-run g c t go =
     let text = database_text tree in
     let ending = c.refuse_spent-in-TooLarge.result.ending in
     let state = c.refuse_spent-in-TooLarge.result.state in
-    let quiet = c.in-Err.ensures.same_err t in
+    let quiet = c.in-Err.ensures.same t in
     let stood = c.stands.ensures.tree t in
     let error = subst (λ (f : TreeError). IsTreeError text f) c.in-TooLarge.is (c.in-Err.ensures.error t) in
     subst (λ (r : Run). IsActed s r ending state first tree)

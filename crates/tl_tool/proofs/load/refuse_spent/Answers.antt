@@ -7,11 +7,11 @@ use Rattle.tl_tool.proofs.load.refuse_spent.Goals as goal
 pub returns-in-Ok-clause-run : goal.returns-in-Ok-clause-run
 returns-in-Ok-clause-run g c t tree stood =
     acted_resumed g.H.Host.seen (refused c.args.refusal) c.refuse.result.ending c.refuse.result.state (g.H.Host.seen c.args.host) c.in-Ok.recovered.journal tree stood
-    (c.in-Ok.ensures.tree t) (c.stands.ensures.tree t) (c.in-Ok.ensures.said t) (c.in-Ok.ensures.pictures t) (c.refuse.ensures.run t)
+    (c.in-Ok.ensures.tree t) (c.stands.ensures.tree t) (c.in-Ok.ensures.resumes t).said (c.in-Ok.ensures.resumes t).pictures (c.refuse.ensures.run t)
 
 pub returns-in-HostFault-clause-run : goal.returns-in-HostFault-clause-run
 returns-in-HostFault-clause-run g c t tree stood =
     let first = g.H.Host.seen c.args.host in
     let last = g.H.Host.seen c.in-Err.field-0.host in
     nothing_cut first last tree (refused c.args.refusal).events
-    (resumed_is_cut first last tree stood (c.in-Err.ensures.stand_err t ∙ stood) (c.in-Err.ensures.said_err t) (c.in-Err.ensures.pictures_err t))
+    (resumed_is_cut first last tree stood ((c.in-Err.ensures.resumes t).stands ∙ stood) (c.in-Err.ensures.resumes t).said (c.in-Err.ensures.resumes t).pictures)

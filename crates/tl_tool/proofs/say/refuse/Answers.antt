@@ -15,7 +15,7 @@ returns-in_default-clause-run g c t =
 
 pub returns-in-Ok-say-clause-run : goal.returns-in-Ok-say-clause-run
 returns-in-Ok-say-clause-run g c t =
-    let says : Says true _ _ _ = c.in-Ok-say.ensures.says t in (
+    let says : Says true _ _ _ = (c.in-Ok-say.ensures.says t).says in (
       refl,
       trace_text stand c.args.journal c.say.new.self (tree_of c.args.journal.present.held) (refusal_line c.args.refusal) (c.stands.ensures.tree t) c.requires
           (subst (λ (l : List ℕ). Says true l c.args.journal c.say.new.self) (search rules) says),
@@ -26,4 +26,4 @@ returns-in-Err-clause-run g c t =
     let tree = tree_of c.args.journal.present.held in
     subst (λ (last : Seen). Cut stand c.args.journal last tree (Text (refusal_line c.args.refusal) ∷ [])) (sym c.into_host.ensures)
     (cut_text stand false c.args.journal c.say.new.self tree (refusal_line c.args.refusal) (c.stands.ensures.tree t) c.requires
-    (subst (λ (l : List ℕ). Says false l c.args.journal c.say.new.self) (search rules) (c.in-Err.ensures.says t)))
+    (subst (λ (l : List ℕ). Says false l c.args.journal c.say.new.self) (search rules) (c.in-Err.ensures.says t).says))

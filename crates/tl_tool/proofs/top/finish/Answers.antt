@@ -9,10 +9,10 @@ returns-in-Ok-rest-clause-run g c t run first tree acted =
     let ending = c.args.acted.ending in
     subst (λ (last : Seen). IsRun run ending first last tree) (sym c.into_host.ensures)
     (run_rest run ending first c.in-Ok.journal c.in-Ok-rest.clean tree
-    (acted_at_rest g.H.Host.seen run ending c.args.acted.state first c.in-Ok.journal tree c.in-Ok.is acted) (c.in-Ok-rest.ensures.stays t))
+    (acted_at_rest g.H.Host.seen run ending c.args.acted.state first c.in-Ok.journal tree c.in-Ok.is acted) (c.in-Ok-rest.ensures.rests t).stays)
 
 pub returns-in-Err-rest-clause-run : goal.returns-in-Err-rest-clause-run
 returns-in-Err-rest-clause-run g c t run first tree acted =
     let ending = c.args.acted.ending in
     run_rest_cut run ending first c.in-Ok.journal (g.H.Host.seen c.in-Err-rest.lost.host) tree
-    (acted_at_rest g.H.Host.seen run ending c.args.acted.state first c.in-Ok.journal tree c.in-Ok.is acted) (c.in-Err-rest.ensures.stays_err t)
+    (acted_at_rest g.H.Host.seen run ending c.args.acted.state first c.in-Ok.journal tree c.in-Ok.is acted) (c.in-Err-rest.ensures.rests t).stays

@@ -23,7 +23,7 @@ returns-in-Ok-clause-run g c t tree stood =
     let same = some_tree (tree_of mid.present.held) tree (sym (c.in-Ok.ensures.tree t) ∙ stood) in
     c.finish.ensures.run t (act_of action tree) first tree
     (acted_after s (act_of action tree) ending state first mid tree
-    (resumed first mid tree stood (c.in-Ok.ensures.tree t) (c.stands.ensures.tree t) (c.in-Ok.ensures.said t) (c.in-Ok.ensures.pictures t))
+    (resumed first mid tree stood (c.in-Ok.ensures.tree t) (c.stands.ensures.tree t) (c.in-Ok.ensures.resumes t).said (c.in-Ok.ensures.resumes t).pictures)
     (subst (λ (v : Volume). IsActed s (act_of action v) ending state mid v) same (c.act.ensures.run t)))
 
 pub returns-in-HostFault-clause-run : goal.returns-in-HostFault-clause-run
@@ -31,7 +31,7 @@ returns-in-HostFault-clause-run g c t tree stood =
     let first = g.H.Host.seen c.args.host in
     let last = g.H.Host.seen c.in-Err.field-0.host in
     nothing_cut first last tree (act_of c.args.action tree).events
-    (resumed_is_cut first last tree stood (c.in-Err.ensures.stand_err t ∙ stood) (c.in-Err.ensures.said_err t) (c.in-Err.ensures.pictures_err t))
+    (resumed_is_cut first last tree stood ((c.in-Err.ensures.resumes t).stands ∙ stood) (c.in-Err.ensures.resumes t).said (c.in-Err.ensures.resumes t).pictures)
 
 pub returns-clause-without : goal.returns-clause-without
 returns-clause-without g c t none =
@@ -43,4 +43,4 @@ returns-clause-without g c t none =
     let bad = subst (λ (f : RecoverError). IsFault first mid f) c.in-BadJournal.is (c.in-Err.ensures.bad t) in
     let place = ap (λ (o : Option ℕ). BadJournal (unwrap_or o 0)) bad.1 in
     subst (λ (r : Refusal). IsSaid (refused r) ending first last) (c.bad_journal.ensures.refusal ∙ sym place)
-    (said_after (refused c.bad_journal.result) ending first mid last (c.in-Err.ensures.said_err t) (c.refuse_at_once.ensures.said t))
+    (said_after (refused c.bad_journal.result) ending first mid last (c.in-Err.ensures.resumes t).said (c.refuse_at_once.ensures.said t))

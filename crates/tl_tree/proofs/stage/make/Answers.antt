@@ -1,15 +1,21 @@
 use Rattle.tl_journal.specs.States.{staged}
-use Rattle.tl_tree.proofs.Steps.{made_of, halted_of}
+use Rattle.tl_tree.proofs.Steps.{made_of, halted_of, halted_early}
 use Rattle.tl_tree.proofs.stage.make.Goals as goal
+
+pub returns-in-Err-clause-halted : goal.returns-in-Err-clause-halted
+returns-in-Err-clause-halted g c t = halted_early c.args.staging _ (c.in-Err.ensures.commits t)
 
 pub returns-in-Ok-apply-clause-made : goal.returns-in-Ok-apply-clause-made
 returns-in-Ok-apply-clause-made g c t =
-    let committed = c.in-Ok.ensures in let applied = c.in-Ok-apply.ensures in
-    made_of (staged c.args.staging) c.args.staging c.in-Ok.committed c.in-Ok-apply.applied c.close.result c.close.ensures
-    (committed.stands t) (committed.said t) (committed.pictures t) (committed.syncs t) (applied.tree t) (applied.stays t) (applied.syncs t)
+    made_of c.args.staging c.in-Ok.committed c.in-Ok-apply.applied c.close.result c.close.ensures
+    (c.in-Ok.ensures.committed t) (c.in-Ok.ensures.commits t) (c.in-Ok-apply.ensures.tree t) (c.in-Ok-apply.ensures.carries_out t)
+
+pub returns-in-Ok-apply-clause-halted : goal.returns-in-Ok-apply-clause-halted
+returns-in-Ok-apply-clause-halted g c t =
+    halted_of c.args.staging c.in-Ok.committed c.in-Ok-apply.applied c.close.result c.close.ensures
+    (c.in-Ok.ensures.committed t) (c.in-Ok.ensures.commits t) (c.in-Ok-apply.ensures.carries_out t)
 
 pub returns-in-Err-apply-clause-halted : goal.returns-in-Err-apply-clause-halted
 returns-in-Err-apply-clause-halted g c t =
-    let committed = c.in-Ok.ensures in let lost = c.in-Err-apply.ensures in
-    halted_of (staged c.args.staging) c.args.staging c.in-Ok.committed (g.H.Host.seen c.in-Err-apply.lost.host)
-    (committed.stands t) (committed.said t) (committed.pictures t) (committed.syncs t) (lost.stays_err t) (lost.syncs_err t)
+    halted_of c.args.staging c.in-Ok.committed _ (g.H.Host.seen c.in-Err-apply.lost.host) (λ i. g.H.Host.seen c.in-Err-apply.lost.host)
+    (c.in-Ok.ensures.committed t) (c.in-Ok.ensures.commits t) (c.in-Err-apply.ensures.carries_out t)

@@ -1,9 +1,9 @@
 use Rattle.std.proofs.Common.{◌∙◌, ap, sym, []}
 use Rattle.tl_model.specs.Seen.{Seen}
 use Rattle.tl_journal_text.specs.Slots.{spare}
-use Rattle.tl_journal_text.specs.Stand.{tree_of}
-use Rattle.tl_journal.proofs.Live.{keeps_clean, keeps_open, keeps_tree}
-use Rattle.tl_journal.proofs.Staged.{staged_only, started, staged_is, is_staging}
+use Rattle.tl_journal.proofs.Live.{keeps_clean, keeps_open}
+use Rattle.tl_journal.proofs.Staged.{started, staged_is, is_staging}
+use Rattle.tl_journal.proofs.Called.{stages_of}
 use Rattle.tl_journal.proofs.states.Clean.stage.Goals as goal
 
 pub invariant_of-result : goal.invariant_of-result
@@ -21,17 +21,14 @@ returns-in-Ok-clause-empty g c t =
     let text = started (s c.self.inside.host) (s c.start.new.host) c.spare.result (ap spare inv.1 ∙ sym c.spare.ensures) (c.start.ensures.keeps t) (c.in-Ok.ensures.text t) in
     staged_is (s c.start.new.host) [] text tt
 
-pub returns-in-Ok-clause-tree : goal.returns-in-Ok-clause-tree
-returns-in-Ok-clause-tree g c t = keeps_tree _ _ (c.start.ensures.keeps t) ∙ ap (λ (s : Seen). tree_of s.present.held) c.self.view_is
-
-pub returns-in-Ok-clause-touches : goal.returns-in-Ok-clause-touches
-returns-in-Ok-clause-touches g c t = staged_only _ _ _ c.self.inside.opened c.spare.result c.self.view_is (c.self.invariant t).1 c.spare.ensures (c.start.ensures.touches t)
-
-pub returns-in-Err-clause-touches_err : goal.returns-in-Err-clause-touches_err
-returns-in-Err-clause-touches_err g c t = staged_only _ _ _ c.self.inside.opened c.spare.result c.self.view_is (c.self.invariant t).1 c.spare.ensures (c.start.ensures.touches t)
-
 pub returns-in-Ok-clause-spare : goal.returns-in-Ok-clause-spare
 returns-in-Ok-clause-spare g c t =
     let s = g.H.Host.seen in
     let inv = c.self.invariant t in
     started (s c.self.inside.host) (s c.start.new.host) c.spare.result (ap spare inv.1 ∙ sym c.spare.ensures) (c.start.ensures.keeps t) (c.in-Ok.ensures.text t)
+
+pub returns-in-Ok-clause-stages : goal.returns-in-Ok-clause-stages
+returns-in-Ok-clause-stages g c t = stages_of _ _ _ c.self.inside.opened c.spare.result c.self.view_is (c.self.invariant t).1 c.spare.ensures (c.start.ensures.keeps t) (c.start.ensures.touches t)
+
+pub returns-in-Err-clause-stages : goal.returns-in-Err-clause-stages
+returns-in-Err-clause-stages g c t = stages_of _ _ _ c.self.inside.opened c.spare.result c.self.view_is (c.self.invariant t).1 c.spare.ensures (c.start.ensures.keeps t) (c.start.ensures.touches t)

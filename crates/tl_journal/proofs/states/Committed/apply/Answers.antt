@@ -1,9 +1,8 @@
-use Rattle.std.proofs.Common.{◌∙◌, ap, sym, subst}
+use Rattle.std.proofs.Common.{◌∙◌, ap, sym}
 use Rattle.tl_model.specs.Seen.{Seen}
 use Rattle.tl_journal_text.specs.Stand.{stand}
-use Rattle.tl_journal.specs.States.{IsPending}
-use Rattle.tl_journal.specs.Touching.{TouchesOnly}
 use Rattle.tl_journal.proofs.Live.{keeps_stand, same_open}
+use Rattle.tl_journal.proofs.Called.{carries_out_of}
 use Rattle.tl_journal.proofs.states.Committed.apply.Goals as goal
 
 pub invariant_of-result : goal.invariant_of-result
@@ -12,8 +11,8 @@ invariant_of-result g c t = (c.in-Ok.ensures.clean t, same_open _ _ (c.apply.ens
 pub returns-in-Ok-clause-tree : goal.returns-in-Ok-clause-tree
 returns-in-Ok-clause-tree g c t = ap (λ (s : Seen). stand s.present.held) (sym c.self.view_is) ∙ sym (keeps_stand _ _ (c.apply.ensures.redoes t).keeps) ∙ (c.in-Ok.ensures.clean t).tree
 
-pub returns-in-Ok-clause-touches : goal.returns-in-Ok-clause-touches
-returns-in-Ok-clause-touches g c t = subst (λ (s : Seen). TouchesOnly (IsPending s.present.held) s (g.H.Host.seen c.apply.new.host)) c.self.view_is (c.apply.ensures.redoes t).only
+pub returns-in-Ok-clause-carries_out : goal.returns-in-Ok-clause-carries_out
+returns-in-Ok-clause-carries_out g c t = carries_out_of _ _ _ c.self.view_is (c.apply.ensures.redoes t)
 
-pub returns-in-Err-clause-touches_err : goal.returns-in-Err-clause-touches_err
-returns-in-Err-clause-touches_err g c t = subst (λ (s : Seen). TouchesOnly (IsPending s.present.held) s (g.H.Host.seen c.apply.new.host)) c.self.view_is (c.apply.ensures.redoes t).only
+pub returns-in-Err-clause-carries_out : goal.returns-in-Err-clause-carries_out
+returns-in-Err-clause-carries_out g c t = carries_out_of _ _ _ c.self.view_is (c.apply.ensures.redoes t)

@@ -2,11 +2,11 @@ use Rattle.std.proofs.Common.{◌∙◌, ap, subst, [], ◌∷◌, ◌++◌}
 use Rattle.tl_model.specs.Volume.{Name}
 use Rattle.tl_model.specs.Seen.{Seen}
 use Rattle.tl_journal_text.specs.Records.{Remove, text_of}
-use Rattle.tl_journal_text.specs.Stand.{tree_of}
 use Rattle.tl_journal_text.proofs.Targets.{is_target_of}
 use Rattle.tl_journal.specs.States.{Grows, staged}
-use Rattle.tl_journal.proofs.Live.{keeps_clean, keeps_open, keeps_tree}
-use Rattle.tl_journal.proofs.Staged.{staged_only, more_is, more_staging}
+use Rattle.tl_journal.proofs.Live.{keeps_clean, keeps_open}
+use Rattle.tl_journal.proofs.Staged.{more_is, more_staging}
+use Rattle.tl_journal.proofs.Called.{stages_of}
 use Rattle.tl_journal.proofs.states.Staging.stage_remove.Goals as goal
 
 pub invariant_of-result : goal.invariant_of-result
@@ -25,11 +25,8 @@ returns-in-Ok-clause-added g c t =
     more_is (s c.self.inside.host) (s c.add_remove.new.host) (Remove c.args.path.now) inv.0 (is_target_of c.args.path.now c.bytes-path.ensures.path c.requires) grows
     ∙ ap (λ (s : Seen). staged s ++ (Remove c.args.path.now) ∷ []) c.self.view_is
 
-pub returns-in-Ok-clause-tree : goal.returns-in-Ok-clause-tree
-returns-in-Ok-clause-tree g c t = keeps_tree _ _ (c.add_remove.ensures.keeps t) ∙ ap (λ (s : Seen). tree_of s.present.held) c.self.view_is
+pub returns-in-Ok-clause-stages : goal.returns-in-Ok-clause-stages
+returns-in-Ok-clause-stages g c t = stages_of _ _ _ c.self.inside.opened c.spare.result c.self.view_is (c.self.invariant t).1 c.spare.ensures (c.add_remove.ensures.keeps t) (c.add_remove.ensures.touches t)
 
-pub returns-in-Ok-clause-touches : goal.returns-in-Ok-clause-touches
-returns-in-Ok-clause-touches g c t = staged_only _ _ _ c.self.inside.opened c.spare.result c.self.view_is (c.self.invariant t).1 c.spare.ensures (c.add_remove.ensures.touches t)
-
-pub returns-in-Err-clause-touches_err : goal.returns-in-Err-clause-touches_err
-returns-in-Err-clause-touches_err g c t = staged_only _ _ _ c.self.inside.opened c.spare.result c.self.view_is (c.self.invariant t).1 c.spare.ensures (c.add_remove.ensures.touches t)
+pub returns-in-Err-clause-stages : goal.returns-in-Err-clause-stages
+returns-in-Err-clause-stages g c t = stages_of _ _ _ c.self.inside.opened c.spare.result c.self.view_is (c.self.invariant t).1 c.spare.ensures (c.add_remove.ensures.keeps t) (c.add_remove.ensures.touches t)

@@ -1,8 +1,8 @@
 use Rattle.std.proofs.Common.{◌∙◌, ap, ◌++◌, arith}
-use Rattle.tl_journal_text.specs.Stand.{tree_of}
 use Rattle.tl_journal.specs.States.{coming}
-use Rattle.tl_journal.proofs.Live.{keeps_clean, keeps_open, keeps_tree}
-use Rattle.tl_journal.proofs.Staged.{staged_only, writing_more, piece_coming}
+use Rattle.tl_journal.proofs.Live.{keeps_clean, keeps_open}
+use Rattle.tl_journal.proofs.Staged.{writing_more, piece_coming}
+use Rattle.tl_journal.proofs.Called.{stages_of}
 use Rattle.tl_journal.specs.States.{Writes}
 use Rattle.tl_journal.proofs.writing.Writing.piece.Goals as goal
 
@@ -22,11 +22,8 @@ returns-in-Ok-clause-coming g c t rest =
     piece_coming (s c.self.inside.host) (s c.add.new.host) 0 c.self.inside.left c.args.bytes.now (c.in-Ok.ensures.grows t) rest
     ∙ ap (λ (w : Writes). coming w (c.args.bytes.now ++ rest)) c.self.view_is
 
-pub returns-in-Ok-clause-tree : goal.returns-in-Ok-clause-tree
-returns-in-Ok-clause-tree g c t = keeps_tree _ _ (c.add.ensures.keeps t) ∙ ap (λ (w : Writes). tree_of w.seen.present.held) c.self.view_is
+pub returns-in-Ok-clause-stages : goal.returns-in-Ok-clause-stages
+returns-in-Ok-clause-stages g c t = stages_of _ _ _ c.self.inside.opened c.spare.result (ap (λ (w : Writes). w.seen) c.self.view_is) (c.self.invariant t).1 c.spare.ensures (c.add.ensures.keeps t) (c.add.ensures.touches t)
 
-pub returns-in-Ok-clause-touches : goal.returns-in-Ok-clause-touches
-returns-in-Ok-clause-touches g c t = staged_only _ _ _ c.self.inside.opened c.spare.result (ap (λ (w : Writes). w.seen) c.self.view_is) (c.self.invariant t).1 c.spare.ensures (c.add.ensures.touches t)
-
-pub returns-in-Err-clause-touches_err : goal.returns-in-Err-clause-touches_err
-returns-in-Err-clause-touches_err g c t = staged_only _ _ _ c.self.inside.opened c.spare.result (ap (λ (w : Writes). w.seen) c.self.view_is) (c.self.invariant t).1 c.spare.ensures (c.add.ensures.touches t)
+pub returns-in-Err-clause-stages : goal.returns-in-Err-clause-stages
+returns-in-Err-clause-stages g c t = stages_of _ _ _ c.self.inside.opened c.spare.result (ap (λ (w : Writes). w.seen) c.self.view_is) (c.self.invariant t).1 c.spare.ensures (c.add.ensures.keeps t) (c.add.ensures.touches t)

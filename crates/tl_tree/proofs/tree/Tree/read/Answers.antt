@@ -20,11 +20,11 @@ returns-clause-bytes g c t =
     let held = c.args.self.now.seen.present.held in
     let same = ap (λ (p : Planted). at p.seen.present.held c.args.name) c.self.view_is
     ∙ sym (at-tree_of-outside held c.args.name (ap is_ours (sym c.bytes.ensures.bytes) ∙ sym c.is_ours.ensures ∙ c.if-is_ours.false)) in
-    subst (λ (o : Option (List ℕ)). IfOk c.read.result (λ count. take count c.read.new.into ≡ take (length c.read.new.into) (drop c.args.from (unwrap_or o [])))) same (c.read.ensures.bytes t)
+    subst (λ (o : Option (List ℕ)). IfOk c.read.result (λ count. take count c.read.new.into ≡ take (length c.read.new.into) (drop c.args.from (unwrap_or o [])))) same (c.read.ensures.bytes t).bytes
 
 pub returns-clause-count : goal.returns-clause-count
 returns-clause-count g c t =
     let held = c.args.self.now.seen.present.held in
     let same = ap (λ (p : Planted). at p.seen.present.held c.args.name) c.self.view_is
     ∙ sym (at-tree_of-outside held c.args.name (ap is_ours (sym c.bytes.ensures.bytes) ∙ sym c.is_ours.ensures ∙ c.if-is_ours.false)) in
-    subst (λ (o : Option (List ℕ)). IfOk c.read.result (λ count. count ≡ length (take (length c.read.new.into) (drop c.args.from (unwrap_or o []))))) same (c.read.ensures.count t)
+    subst (λ (o : Option (List ℕ)). IfOk c.read.result (λ count. count ≡ length (take (length c.read.new.into) (drop c.args.from (unwrap_or o []))))) same (c.read.ensures.bytes t).count

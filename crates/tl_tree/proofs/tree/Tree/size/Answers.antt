@@ -15,4 +15,4 @@ returns-clause-length g c t =
     let held = c.args.self.now.seen.present.held in
     let same = ap (λ (p : Planted). at p.seen.present.held c.args.name) c.self.view_is
     ∙ sym (at-tree_of-outside held c.args.name (ap is_ours (sym c.bytes.ensures.bytes) ∙ sym c.is_ours.ensures ∙ c.if-is_ours.false)) in
-    subst (λ (o : Option (List ℕ)). IfOk c.size.result (λ size. size ≡ option_map length o)) same (c.size.ensures.length t)
+    subst (λ (o : Option (List ℕ)). IfOk c.size.result (λ size. size ≡ option_map length o)) same (c.size.ensures.size t).length
