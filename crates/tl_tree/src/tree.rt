@@ -67,6 +67,13 @@ impl<H: Host> Tree<H> {
         }
     }
 
+    /// The volume stands for its tree.
+    pub fn stands(&self)
+        ensures tree { Told H.tells (stand self.now.seen.present.held ≡ Some (tree_of self.now.seen.present.held)) }
+    {
+        self.journal.stands();
+    }
+
     /// The entries of the database. Takes no memory.
     pub fn db(&self) -> &Db
         ensures { result.now ≡ self.now.db }
