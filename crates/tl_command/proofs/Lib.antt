@@ -1,0 +1,6 @@
+pub mod Databases
+pub mod Joins
+pub mod Limits
+pub mod Pending
+pub mod Says
+pub mod Wholes

@@ -1,0 +1,5 @@
+pub mod Endings
+pub mod Loaded
+pub mod Performs
+pub mod Runs
+pub mod Whole

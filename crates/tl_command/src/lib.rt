@@ -1,0 +1,19 @@
+//! The frame of a command: how it says, refuses, steps, gives up and ends, each stated as a part of its run.
+#![tactic(auto)]
+
+mod acted;
+mod closing;
+mod database;
+mod ending;
+mod session;
+mod steps;
+mod whole;
+
+pub use acted::Acted;
+pub use closing::{finish, give_up, refuse, say};
+pub use database::{canonical_database, load};
+pub use ending::Ending;
+pub use session::Session;
+pub use steps::step;
+pub use tl_refusal::Refusal;
+pub use whole::{begin, end, refuse_at_once};

@@ -1,0 +1,40 @@
+use Rattle.std.proofs.Common.{List, ℕ, [], ◌∷◌, refl, sym, subst}
+use Rattle.tl_model.specs.Acks.{IsLabel}
+use Rattle.tl_tree.specs.declared.change.Part.{Part}
+use Rattle.tl_tree.specs.declared.change.Part.TheVariants.{Entry}
+use Rattle.tl_command.specs.Endings.{no_devices}
+use Rattle.tl_command.specs.Loaded.{Steps}
+use Rattle.tl_command.specs.Performs.{Performs}
+use Rattle.tl_command.specs.Runs.{finished, stepping}
+use Rattle.tl_command.proofs.Joins.{performs_of, performs_stepped}
+use Rattle.tl_settings.specs.Settings.{option_label}
+use Rattle.tl_settings.proofs.Labels.{change-entry}
+use Rattle.tl_settings.proofs.setting.put_entry.Goals as goal
+
+pub step-requires : goal.step-requires
+step-requires g c = change-entry c.args.tree.db c.in-Ok.change.parts c.args.entry c.in-Ok.change.label c.in-Ok.ensures.parts
+    (subst (λ (l : List ℕ). IsLabel l) (sym c.in-Ok.ensures.label) c.requires)
+
+pub returns-in_default : goal.returns-in_default
+returns-in_default g c = performs_of _ _ _ _ _ _ _ c.of_tree.ensures (c.give_up.ensures _)
+
+pub returns-in-Ok-step : goal.returns-in-Ok-step
+returns-in-Ok-step g c =
+    let old = c.args.tree in
+    let new = c.in-Ok-step.tree in
+    let label = option_label c.args.option.now in
+    let ending = c.finish.result.ending in
+    let state = c.finish.result.state in
+    performs_stepped g.H.Host.tells g.H.Host.seen 0 old.seen no_devices no_devices ending state (Entry c.args.entry ∷ []) label old new (λ _. finished) refl
+    (subst (λ (ps : List Part). Steps g.H.Host.tells ps label old new) c.in-Ok.ensures.parts
+    (subst (λ (l : List ℕ). Steps g.H.Host.tells c.in-Ok.change.parts l old new) c.in-Ok.ensures.label c.in-Ok-step.ensures.made))
+    (performs_of _ _ _ _ _ _ _ c.of_tree-in-Ok-step.ensures c.finish.ensures)
+
+pub returns : goal.returns
+returns g c =
+    let old = c.args.tree in
+    let ending = c.in-Err.acted.ending in
+    let state = c.in-Err.acted.state in
+    subst (λ (ps : List Part). Performs g.H.Host.tells g.H.Host.seen (λ t. stepping old.db ps (option_label c.args.option.now) finished t) 0 old.seen no_devices no_devices ending state) c.in-Ok.ensures.parts
+    (subst (λ (l : List ℕ). Performs g.H.Host.tells g.H.Host.seen (λ t. stepping old.db c.in-Ok.change.parts l finished t) 0 old.seen no_devices no_devices ending state) c.in-Ok.ensures.label
+    (c.in-Err.ensures.acted (λ _. finished)))
