@@ -1,9 +1,11 @@
 //! The lines below a head line, and the escapes in a text.
+ghost use Rattle.std.specs.Prelude.{◌<◌, IfSome};
+
 use anyhow::{Result, bail, ensure};
 use std::alloc::{AllocError, Global};
 
 /// Lines of bytes, of which the last may lack its line end.
-#[derive(Debug, Drop)]
+#[derive(Drop)]
 pub(crate) struct Body {
     alloc: Global,
     // lines that have an end, without it
@@ -127,7 +129,9 @@ fn hex_byte(high: Option<u8>, low: Option<u8>) -> Result<u8> {
 }
 
 // The value of a hexadecimal digit.
-fn digit(byte: Option<u8>) -> Option<u8> {
+fn digit(byte: Option<u8>) -> Option<u8>
+    ensures { IfSome result (λ value. value < 16) }
+{
     match byte? {
         byte @ b'0'..=b'9' => Some(byte - b'0'),
         byte @ b'a'..=b'f' => Some(byte - b'a' + 10),

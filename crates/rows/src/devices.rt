@@ -1,8 +1,15 @@
 //! The devices of a run, and the call that is made over them.
+use crate::difference::{Unwanted, compare_numbers};
 use crate::row::Device;
 use std::alloc::{AllocError, Global};
+use std::thread::Threads;
 use tl_memhost::{MemHost, MemShelf, MemSource};
-use tl_tool::{Ending, texlive};
+use tl_tool::{Ending, Regexps, texlive};
+
+/// What the call takes of the runtime.
+pub(crate) trait Outside: Threads + Sync + AllocGlobal {}
+
+impl<R: Threads + Sync + AllocGlobal> Outside for R {}
 
 /// The devices that a command is carried out over.
 #[derive(Drop)]
@@ -13,15 +20,31 @@ pub(crate) struct Devices {
     pub(crate) input: MemSource,
 }
 
+/// The number of a call of a device.
+#[derive(Clone, Copy)]
+pub(crate) struct DeviceCall {
+    pub(crate) device: Device,
+    pub(crate) number: u64,
+}
+
 impl Devices {
-    /// Makes a call of a device fail.
-    pub(crate) fn fail(&mut self, device: Device, call: u64) -> Result<(), AllocError> {
-        match device {
-            Device::Tree => self.tree.fail_at(call),
-            Device::User => self.user.fail_at(call),
-            Device::Shelf => self.shelf.fail_at(call),
-            Device::Input => self.input.fail_at(call),
+    /// Makes a call fail.
+    pub(crate) fn fail(&mut self, call: DeviceCall) -> Result<(), AllocError> {
+        match call.device {
+            Device::Tree => self.tree.fail_at(call.number),
+            Device::User => self.user.fail_at(call.number),
+            Device::Shelf => self.shelf.fail_at(call.number),
+            Device::Input => self.input.fail_at(call.number),
         }
+    }
+
+    /// Whether a call of a tree was the last one that was made; of another device it isn't known.
+    pub(crate) fn check_last(&self, alloc: Global, call: DeviceCall) -> Result<(), Unwanted> {
+        if call.device.is_tree() {
+            let calls = self.host(call.device).calls();
+            compare_numbers(alloc, "calls", call.number.saturating_add(1), calls)?;
+        }
+        Ok(())
     }
 
     /// The tree of a device that is one; of another the tree that is managed.
@@ -34,14 +57,21 @@ impl Devices {
 }
 
 /// Carries a command out over devices, and hands them back.
-pub(crate) fn carry_out(alloc: Global, words: &[Vec<u8>], devices: Devices) -> (Ending, Devices) {
+pub(crate) fn carry_out<R: Outside>(
+    rt: &R,
+    words: &[Vec<u8>],
+    devices: Devices,
+) -> (Ending, Devices) {
     let Devices {
         tree,
         user,
         shelf,
         input,
     } = devices;
-    let (ending, tree) = texlive(alloc, words, tree);
+    let (mut shelf, mut input) = (shelf, input);
+    let mut regexps = Regexps::new();
+    let alloc = rt.alloc();
+    let (ending, tree) = texlive(rt, alloc, words, tree, &mut shelf, &mut input, &mut regexps);
     let devices = Devices {
         tree,
         user,
@@ -55,6 +85,8 @@ pub(crate) fn carry_out(alloc: Global, words: &[Vec<u8>], devices: Devices) -> (
 pub(crate) fn faulty_device(ending: &Ending) -> Option<Device> {
     match ending {
         Ending::HostFault => Some(Device::Tree),
-        _ => None,
+        Ending::ShelfFault => Some(Device::Shelf),
+        Ending::InputFault => Some(Device::Input),
+        Ending::Done | Ending::Refused(_) | Ending::NoMemory => None,
     }
 }

@@ -4,7 +4,7 @@ use std::alloc::{AllocError, AllocFailed, Global};
 use std::fmt;
 
 /// What differs, with what was wanted and what was found.
-#[derive(Debug, Drop)]
+#[derive(Drop)]
 pub(crate) struct Difference {
     what: String,
     wanted: String,
@@ -21,7 +21,7 @@ impl fmt::Display for Difference {
 }
 
 /// Why a run isn't as wanted.
-#[derive(Debug, Drop)]
+#[derive(Drop)]
 pub(crate) enum Unwanted {
     /// Something differs.
     Differs(Difference),
@@ -80,7 +80,12 @@ fn make_difference(
 }
 
 /// Compares two numbers.
-pub(crate) fn compare_numbers(alloc: Global, what: &str, wanted: u64, found: u64) -> Result<(), Unwanted> {
+pub(crate) fn compare_numbers(
+    alloc: Global,
+    what: &str,
+    wanted: u64,
+    found: u64,
+) -> Result<(), Unwanted> {
     if wanted == found {
         Ok(())
     } else {
@@ -107,7 +112,13 @@ pub(crate) fn compare_bytes(
             return Err(line_differs(alloc, what, number, Some(line), other));
         }
     }
-    Err(line_differs(alloc, what, number.saturating_add(1), None, found_lines.next()))
+    Err(line_differs(
+        alloc,
+        what,
+        number.saturating_add(1),
+        None,
+        found_lines.next(),
+    ))
 }
 
 // A line differs.

@@ -1,6 +1,6 @@
 //! The lines of a file of rows that say what stands below them.
 use crate::body::read_text;
-use crate::row::{Device, Failure, Moment, Place, Stop, Wanted};
+use crate::row::{Call, Device, Failure, Place, Stop, Wanted};
 use anyhow::{Result, bail, ensure};
 use std::alloc::Global;
 use tl_file::Bytes;
@@ -8,7 +8,7 @@ use tl_memhost::Choice;
 use tl_path::Path;
 
 /// A head line.
-#[derive(Debug, Drop)]
+#[derive(Drop)]
 pub(crate) enum Head {
     /// A further row, with its title.
     Case(String),
@@ -66,7 +66,11 @@ fn cut(text: &str) -> (&str, &str) {
 // A head line of one word.
 fn read_bare(word: &str, rest: &str) -> Result<Head> {
     ensure!(rest.is_empty(), "a word too many: {rest}");
-    Ok(if word == "says" { Head::Says } else { Head::Input })
+    Ok(if word == "says" {
+        Head::Says
+    } else {
+        Head::Input
+    })
 }
 
 // A line of the files of a place.
@@ -123,25 +127,20 @@ fn read_failure(text: &str) -> Result<Failure> {
     let (device, rest) = cut(text);
     let device = read_device(device)?;
     let (word, number) = cut(rest);
-    let moment = read_moment(word, number)?;
-    ensure!(is_moment_of(device, moment), "no such call: {text}");
-    Ok(Failure { device, moment })
+    let call = read_call(word, number)?;
+    ensure!(
+        device.is_tree() || matches!(call, Call::Number(_)),
+        "it never syncs: {device}"
+    );
+    Ok(Failure { device, call })
 }
 
-fn read_moment(word: &str, number: &str) -> Result<Moment> {
+// `call N` or `sync N`.
+fn read_call(word: &str, number: &str) -> Result<Call> {
     match word {
-        "call" => Ok(Moment::Call(number.parse::<u64>()?)),
-        "sync" => Ok(Moment::Sync(number.parse::<u64>()?)),
+        "call" => Ok(Call::Number(number.parse::<u64>()?)),
+        "sync" => Ok(Call::Sync(number.parse::<u64>()?)),
         _ => bail!("no such call: {word}"),
-    }
-}
-
-// Whether a device has such calls.
-fn is_moment_of(device: Device, moment: Moment) -> bool {
-    match moment {
-        Moment::Call(_) => true,
-        Moment::Sync(_) => device.is_tree(),
-        Moment::End => false,
     }
 }
 
@@ -149,20 +148,18 @@ fn is_moment_of(device: Device, moment: Moment) -> bool {
 fn read_stop(alloc: Global, text: &str) -> Result<Stop> {
     let (device, rest) = cut(text);
     let device = read_device(device)?;
-    ensure!(device.is_tree(), "a stop leaves files");
+    ensure!(device.is_tree(), "it leaves no files: {device}");
     let (word, rest) = cut(rest);
-    if word == "end" {
-        return Ok(Stop {
-            device,
-            moment: Moment::End,
-            choice: read_choice(alloc, rest)?,
-        });
-    }
-    let (number, rest) = cut(rest);
+    let (call, choice) = if word == "end" {
+        (None, rest)
+    } else {
+        let (number, rest) = cut(rest);
+        (Some(read_call(word, number)?), rest)
+    };
     Ok(Stop {
         device,
-        moment: read_moment(word, number)?,
-        choice: read_choice(alloc, rest)?,
+        call,
+        choice: read_choice(alloc, choice)?,
     })
 }
 

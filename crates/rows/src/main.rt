@@ -14,12 +14,12 @@ mod row;
 mod shown;
 mod world;
 
+use crate::devices::Outside;
 use crate::difference::Unwanted;
 use crate::reader::read_rows;
 use crate::row::{Row, Step};
 use crate::world::World;
 use anyhow::{Result, bail};
-use std::alloc::Global;
 use std::fs;
 use std::process::ExitCode;
 use std::rt::Files;
@@ -40,7 +40,7 @@ fn main(rt: HostRuntime) -> ExitCode {
 }
 
 // Carries out all rows of the folder, and gives whether each is as wanted.
-fn run<R: Files + Print + AllocGlobal + Clone + Drop>(rt: &R) -> Result<bool> {
+fn run<R: Files + Print + Outside + Clone + Drop>(rt: &R) -> Result<bool> {
     let mut all = true;
     for name in &row_files(rt)? {
         let text = fs::read_to_string(rt, name.as_str())?;
@@ -82,7 +82,7 @@ fn add_row_files<R: Files + AllocGlobal + Clone + Drop>(
 }
 
 // Carries out the rows of a file, prints a line for each, and gives whether each is as wanted.
-fn show_file<R: Print + AllocGlobal>(rt: &R, name: &str, text: &str) -> Result<bool> {
+fn show_file<R: Print + Outside>(rt: &R, name: &str, text: &str) -> Result<bool> {
     let file = match read_rows(rt.alloc(), text) {
         Ok(file) => file,
         Err(error) => {
@@ -100,12 +100,12 @@ fn show_file<R: Print + AllocGlobal>(rt: &R, name: &str, text: &str) -> Result<b
 }
 
 // Carries out a row, prints a line for it, and gives whether it is as wanted.
-fn show_row<R: Print + AllocGlobal>(rt: &R, name: &str, common: &[Step], row: &Row) -> Result<bool> {
+fn show_row<R: Print + Outside>(rt: &R, name: &str, common: &[Step], row: &Row) -> Result<bool> {
     print!(rt; "{name}")?;
     if let Some(title) = &row.title {
         print!(rt; ", {title}")?;
     }
-    match first_difference(rt.alloc(), common, &row.steps)? {
+    match first_difference(rt, common, &row.steps)? {
         None => {
             println!(rt; ": as wanted")?;
             Ok(true)
@@ -118,8 +118,8 @@ fn show_row<R: Print + AllocGlobal>(rt: &R, name: &str, common: &[Step], row: &R
 }
 
 // The first difference of a row, with the number of the run, counted from 1.
-fn first_difference(alloc: Global, common: &[Step], steps: &[Step]) -> Result<Option<String>> {
-    let mut world = World::new(alloc)?;
+fn first_difference<R: Outside>(rt: &R, common: &[Step], steps: &[Step]) -> Result<Option<String>> {
+    let mut world = World::new(rt)?;
     let mut run = 0u32;
     for step in common.iter().chain(steps) {
         if matches!(step, Step::Run(_)) {
@@ -128,8 +128,11 @@ fn first_difference(alloc: Global, common: &[Step], steps: &[Step]) -> Result<Op
         match world.step(step) {
             Ok(()) => {}
             Err(Unwanted::NoMemory) => bail!("no memory is left"),
-            Err(differs) => return Ok(Some(format!(in alloc; "run {run}: {differs}")?)),
+            Err(differs) => return Ok(Some(format!(in rt.alloc(); "run {run}: {differs}")?)),
         }
+    }
+    if run == 0 {
+        return Ok(Some(String::from_str(rt.alloc(), "it has no run")?));
     }
     Ok(None)
 }

@@ -2,7 +2,7 @@
 use crate::devices::{Devices, faulty_device};
 use crate::difference::{Unwanted, compare_bytes, compare_numbers, differs};
 use crate::files::Files;
-use crate::row::{Device, Moment, Run, Stop, Wanted};
+use crate::row::{Device, Run, Stop, Wanted};
 use std::alloc::Global;
 use std::fmt;
 use tl_memhost::{Choice, MemHost, StopError};
@@ -21,7 +21,11 @@ pub(crate) struct Outcome {
 
 impl Outcome {
     /// What came of a run that went on to its end.
-    pub(crate) fn of(alloc: Global, ending: Ending, devices: &Devices) -> Result<Outcome, Unwanted> {
+    pub(crate) fn of(
+        alloc: Global,
+        ending: Ending,
+        devices: &Devices,
+    ) -> Result<Outcome, Unwanted> {
         let Devices { tree, user, .. } = devices;
         Ok(Outcome {
             ending: Some(ending),
@@ -32,7 +36,7 @@ impl Outcome {
         })
     }
 
-    /// What a stop before this call leaves of it.
+    /// What a stop before the call of this number leaves of it.
     pub(crate) fn stop(
         &mut self,
         alloc: Global,
@@ -46,7 +50,7 @@ impl Outcome {
             Device::User => self.user = left,
             _ => self.tree = left,
         }
-        if stop.moment != Moment::End && call <= host.calls() {
+        if stop.call.is_some() && call <= host.calls() {
             self.ending = None;
             self.said.truncate(host.said_before(call) as usize);
         }

@@ -68,7 +68,10 @@ fn read_line(alloc: Global, items: &mut Vec<Item>, number: u32, line: &str) -> R
 
 // Adds what a head line and the lines below it say.
 fn add_item(alloc: Global, file: &mut RowFile, head: Head, body: Body) -> Result<()> {
-    ensure!(body.is_empty() || has_body(&head), "no lines stand below it");
+    ensure!(
+        body.is_empty() || has_body(&head),
+        "no lines stand below it"
+    );
     if let Head::Case(title) = head {
         file.rows.push(Row {
             title: Some(title),

@@ -3,7 +3,7 @@ use tl_memhost::Choice;
 use tl_path::Path;
 
 /// Which files are meant.
-#[derive(Clone, Copy, Debug, PartialEq, Eq)]
+#[derive(Clone, Copy)]
 pub(crate) enum Place {
     /// Those of the tree that is managed.
     Tree,
@@ -14,7 +14,7 @@ pub(crate) enum Place {
 }
 
 /// A device whose call may fail.
-#[derive(Clone, Copy, Debug, PartialEq, Eq)]
+#[derive(Clone, Copy, PartialEq, Eq)]
 pub(crate) enum Device {
     /// The tree that is managed.
     Tree,
@@ -33,34 +33,33 @@ impl Device {
     }
 }
 
-/// A moment of a run.
-#[derive(Clone, Copy, Debug, PartialEq, Eq)]
-pub(crate) enum Moment {
-    /// The call of a device of this number, counted from 0.
-    Call(u64),
+/// A call of a device in a run.
+#[derive(Clone, Copy)]
+pub(crate) enum Call {
+    /// The call of this number, counted from 0.
+    Number(u64),
     /// The sync of this number, counted from 1.
     Sync(u64),
-    /// After the last call.
-    End,
 }
 
 /// A call that fails.
-#[derive(Clone, Copy, Debug)]
+#[derive(Clone, Copy)]
 pub(crate) struct Failure {
     pub(crate) device: Device,
-    pub(crate) moment: Moment,
+    pub(crate) call: Call,
 }
 
-/// A stop of a run before a call, with what touched names hold then.
-#[derive(Debug, Drop)]
+/// A stop of a run, with what touched names hold then.
+#[derive(Drop)]
 pub(crate) struct Stop {
     pub(crate) device: Device,
-    pub(crate) moment: Moment,
+    /// The call before which it comes; `None` at the run's end.
+    pub(crate) call: Option<Call>,
     pub(crate) choice: Choice,
 }
 
 /// How a run must end.
-#[derive(Clone, Copy, Debug, PartialEq, Eq)]
+#[derive(Clone, Copy, PartialEq, Eq)]
 pub(crate) enum Wanted {
     /// With this status.
     Status(u8),
@@ -69,7 +68,7 @@ pub(crate) enum Wanted {
 }
 
 /// What a run must leave at a path.
-#[derive(Debug, Drop)]
+#[derive(Drop)]
 pub(crate) struct Left {
     pub(crate) place: Place,
     pub(crate) path: Path,
@@ -78,7 +77,7 @@ pub(crate) struct Left {
 }
 
 /// A run of a command, and what is wanted of it.
-#[derive(Debug, Drop)]
+#[derive(Drop)]
 pub(crate) struct Run {
     pub(crate) words: Vec<Vec<u8>>,
     pub(crate) input: Option<Vec<u8>>,
@@ -98,7 +97,7 @@ impl Run {
 }
 
 /// A step of a row.
-#[derive(Debug, Drop)]
+#[derive(Drop)]
 pub(crate) enum Step {
     /// A file is put there.
     File(Place, Path, Vec<u8>),
@@ -113,14 +112,14 @@ pub(crate) enum Step {
 }
 
 /// A row: its title, where it has one, and its steps behind the common ones of its file.
-#[derive(Debug, Drop)]
+#[derive(Drop)]
 pub(crate) struct Row {
     pub(crate) title: Option<String>,
     pub(crate) steps: Vec<Step>,
 }
 
 /// A file of rows: the steps that each row begins with, and the rows.
-#[derive(Debug, Drop)]
+#[derive(Drop)]
 pub(crate) struct RowFile {
     pub(crate) common: Vec<Step>,
     pub(crate) rows: Vec<Row>,

@@ -1,9 +1,9 @@
 //! What the runs of a row are carried out over.
-use crate::devices::{Devices, carry_out};
-use crate::difference::{Unwanted, compare_numbers, differs};
+use crate::devices::{DeviceCall, Devices, Outside, carry_out};
+use crate::difference::{Unwanted, differs};
 use crate::folder::Folder;
 use crate::outcome::Outcome;
-use crate::row::{Device, Moment, Place, Run, Step};
+use crate::row::{Call, Device, Failure, Place, Run, Step};
 use std::alloc::{AllocError, Global};
 use tl_file::FileBytes;
 use tl_memhost::{MemShelf, MemSource};
@@ -13,22 +13,23 @@ const REPOSITORIES: u32 = 16;
 
 /// The trees and the repositories of a row.
 #[derive(Drop)]
-pub(crate) struct World {
-    alloc: Global,
+pub(crate) struct World<'a, R: Outside> {
+    rt: &'a R,
     tree: Folder,
     user: Folder,
     repositories: Vec<Folder>,
 }
 
-impl World {
+impl<'a, R: Outside> World<'a, R> {
     /// Trees and repositories without files.
-    pub(crate) fn new(alloc: Global) -> Result<World, AllocError> {
+    pub(crate) fn new(rt: &'a R) -> Result<World<'a, R>, AllocError> {
+        let alloc = rt.alloc();
         let mut repositories = Vec::new(alloc);
         for _ in 0..REPOSITORIES {
             repositories.push(Folder::new(alloc))?;
         }
         Ok(World {
-            alloc,
+            rt,
             tree: Folder::new(alloc),
             user: Folder::new(alloc),
             repositories,
@@ -53,7 +54,7 @@ impl World {
             Place::User => Ok(&mut self.user),
             Place::Repository(number) => match self.repositories.get_mut(number as usize) {
                 Some(folder) => Ok(folder),
-                None => Err(differs(self.alloc, "repositories", "at most 16", number)),
+                None => Err(differs(self.rt.alloc(), "repositories", "at most 16", number)),
             },
         }
     }
@@ -67,9 +68,9 @@ impl World {
 
     // Carries a run out, and compares what came of it with what is wanted.
     fn run(&mut self, run: &Run) -> Result<(), Unwanted> {
-        self.check_built(run)?;
+        self.check_built()?;
         let outcome = self.outcome(run)?;
-        outcome.compare(self.alloc, run)?;
+        outcome.compare(self.rt.alloc(), run)?;
         let Outcome { tree, user, .. } = outcome;
         self.tree.take_over(tree);
         self.user.take_over(user);
@@ -77,15 +78,9 @@ impl World {
     }
 
     // Refuses what the call can't be given yet.
-    fn check_built(&self, run: &Run) -> Result<(), Unwanted> {
+    fn check_built(&self) -> Result<(), Unwanted> {
         if !self.user.held().is_empty() {
             return Err(Unwanted::Unbuilt("a user's own tree"));
-        }
-        if self.repositories.iter().any(|folder| !folder.held().is_empty()) {
-            return Err(Unwanted::Unbuilt("repositories"));
-        }
-        if run.input.is_some() {
-            return Err(Unwanted::Unbuilt("input"));
         }
         Ok(())
     }
@@ -108,76 +103,79 @@ impl World {
 
     // The devices of a run, of which no call is to fail.
     fn devices(&self, run: &Run) -> Result<Devices, Unwanted> {
-        let mut repositories = Vec::new(self.alloc);
+        let mut repositories = Vec::new(self.rt.alloc());
         for folder in &self.repositories {
             repositories.push(folder.held().to_list()?)?;
         }
         let input = match &run.input {
-            Some(bytes) => Vec::from_slice(self.alloc, bytes)?,
-            None => Vec::new(self.alloc),
+            Some(bytes) => Vec::from_slice(self.rt.alloc(), bytes)?,
+            None => Vec::new(self.rt.alloc()),
         };
         Ok(Devices {
             tree: self.tree.to_host()?,
             user: self.user.to_host()?,
-            shelf: shelf_of(self.alloc, repositories)?,
-            input: MemSource::new(self.alloc, input),
+            shelf: shelf_of(self.rt.alloc(), repositories)?,
+            input: MemSource::new(self.rt.alloc(), input),
         })
     }
 
     // What comes of a run.
     fn outcome(&self, run: &Run) -> Result<Outcome, Unwanted> {
+        let alloc = self.rt.alloc();
+        let failing = self.failing_calls(run)?;
         let mut devices = self.devices(run)?;
-        for failure in &run.failing {
-            let call = self.call_at(run, failure.device, failure.moment)?;
-            devices.fail(failure.device, call)?;
+        for call in &failing {
+            devices.fail(*call)?;
         }
-        let (ending, devices) = carry_out(self.alloc, &run.words, devices);
-        self.check_last_calls(run, &devices)?;
-        let mut outcome = Outcome::of(self.alloc, ending, &devices)?;
+        let (ending, devices) = carry_out(self.rt, &run.words, devices);
+        for call in &failing {
+            devices.check_last(alloc, *call)?;
+        }
+        let mut outcome = Outcome::of(alloc, ending, &devices)?;
         if let Some(stop) = &run.stop {
-            let call = match stop.moment {
-                Moment::End => devices.host(stop.device).calls(),
-                moment => self.call_at(run, stop.device, moment)?,
+            let number = match stop.call {
+                Some(call) => self.number_of(run, stop.device, call)?,
+                None => devices.host(stop.device).calls(),
             };
-            outcome.stop(self.alloc, stop, call, &devices)?;
+            outcome.stop(alloc, stop, number, &devices)?;
         }
         Ok(outcome)
     }
 
-    // A call of a tree that fails is the run's last.
-    fn check_last_calls(&self, run: &Run, devices: &Devices) -> Result<(), Unwanted> {
+    // The calls of a run that fail.
+    fn failing_calls(&self, run: &Run) -> Result<Vec<DeviceCall>, Unwanted> {
+        let mut calls = Vec::new(self.rt.alloc());
         for failure in &run.failing {
-            if failure.device.is_tree() {
-                let call = self.call_at(run, failure.device, failure.moment)?;
-                let calls = devices.host(failure.device).calls();
-                compare_numbers(self.alloc, "calls", call.saturating_add(1), calls)?;
-            }
+            let Failure { device, call } = *failure;
+            calls.push(DeviceCall {
+                device,
+                number: self.number_of(run, device, call)?,
+            })?;
         }
-        Ok(())
+        Ok(calls)
     }
 
     // The number of a call, counted from 0.
-    fn call_at(&self, run: &Run, device: Device, moment: Moment) -> Result<u64, Unwanted> {
-        match moment {
-            Moment::Call(call) => Ok(call),
-            Moment::Sync(number) => self.sync_call(run, device, number),
-            Moment::End => Ok(u64::MAX),
+    fn number_of(&self, run: &Run, device: Device, call: Call) -> Result<u64, Unwanted> {
+        match call {
+            Call::Number(number) => Ok(number),
+            Call::Sync(syncs) => self.sync_call(run, device, syncs),
         }
     }
 
-    // The call that is a run's sync of this number: where it fails, so many syncs were asked for.
-    fn sync_call(&self, run: &Run, device: Device, number: u64) -> Result<u64, Unwanted> {
-        let (_, whole) = carry_out(self.alloc, &run.words, self.devices(run)?);
+    // The call that is this sync of a run: where it fails, so many syncs were asked for.
+    fn sync_call(&self, run: &Run, device: Device, syncs: u64) -> Result<u64, Unwanted> {
+        let (_, whole) = carry_out(self.rt, &run.words, self.devices(run)?);
         let host = whole.host(device);
-        for call in 0..host.calls() {
+        for number in 0..host.calls() {
             let mut devices = self.devices(run)?;
-            devices.fail(device, call)?;
-            let (_, devices) = carry_out(self.alloc, &run.words, devices);
-            if devices.host(device).syncs() == number {
-                return Ok(call);
+            devices.fail(DeviceCall { device, number })?;
+            let (_, devices) = carry_out(self.rt, &run.words, devices);
+            if devices.host(device).syncs() == syncs {
+                return Ok(number);
             }
         }
-        Err(differs(self.alloc, "syncs", number, host.syncs()))
+        Err(differs(self.rt.alloc(), "syncs", syncs, host.syncs()))
     }
 }
 

@@ -1,9 +1,11 @@
-// Hosts in memory, and words.
+//! Hosts in memory, words, and the call that is made over them.
 use std::alloc::Global;
 use std::process::Abort;
+use std::thread::Threads;
 use tl_file::{Bytes, FileBytes};
-use tl_memhost::MemHost;
+use tl_memhost::{MemHost, MemShelf, MemSource};
 use tl_path::Path;
+use tl_tool::{Ending, Regexps, texlive};
 
 pub(crate) fn path(rt: &impl Abort, alloc: Global, name: &str) -> Path {
     Path::parse(alloc, name.as_bytes())
@@ -36,4 +38,17 @@ pub(crate) fn words(rt: &impl Abort, alloc: Global, words: &[&str]) -> Vec<Vec<u
         added.ok().expect(rt, "memory");
     }
     all
+}
+
+// Carries words out over a host, without repositories and input.
+pub(crate) fn carry_out<R: Abort + Threads + Sync>(
+    rt: &R,
+    alloc: Global,
+    words: &[Vec<u8>],
+    host: MemHost,
+) -> (Ending, MemHost) {
+    let shelf = MemShelf::new(alloc, Vec::new(alloc));
+    let mut shelf = shelf.ok().expect(rt, "a shelf");
+    let mut input = MemSource::new(alloc, Vec::new(alloc));
+    texlive(rt, alloc, words, host, &mut shelf, &mut input, &mut Regexps::new())
 }

@@ -1,4 +1,4 @@
-// A file of several pieces.
+//! A file of several pieces.
 use crate::hosts::host;
 use tl_host::read_file;
 use tl_path::PathRef;

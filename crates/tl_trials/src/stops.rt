@@ -1,10 +1,11 @@
-// The setting of an option, stopped at each of its calls, or with one of them failing.
-use crate::hosts::{bytes_of, host, path, words};
+//! The setting of an option, stopped at each of its calls, or with one of them failing.
+use crate::hosts::{bytes_of, carry_out, host, path, words};
 use std::alloc::Global;
 use std::process::Abort;
+use std::thread::Threads;
 use tl_file::Bytes;
 use tl_memhost::{Choice, MemHost};
-use tl_tool::{Ending, texlive};
+use tl_tool::Ending;
 
 const DATABASE: &str = "tlpkg/texlive.tlpdb";
 
@@ -42,12 +43,16 @@ const MADE: [(&str, &[u8]); 5] = [
 ];
 
 // Sets the option over the empty host, of which the call of a number fails, where there is one.
-fn set(rt: &impl Abort, alloc: Global, failing: Option<u64>) -> (Ending, MemHost) {
+fn set<R: Abort + Threads + Sync>(
+    rt: &R,
+    alloc: Global,
+    failing: Option<u64>,
+) -> (Ending, MemHost) {
     let mut host = host(rt, alloc, &[]);
     if let Some(call) = failing {
         host.fail_at(call).ok().expect(rt, "memory");
     }
-    texlive(alloc, &words(rt, alloc, &SET), host)
+    carry_out(rt, alloc, &words(rt, alloc, &SET), host)
 }
 
 // What a stop leaves at each touched name.
@@ -76,9 +81,9 @@ fn is_after(rt: &impl Abort, alloc: Global, host: &MemHost) -> bool {
 }
 
 // Another run repairs what a stop or a fault left, to the tree before the step or after it; and which.
-fn repaired(rt: &impl Abort, alloc: Global, host: MemHost) -> bool {
-    let (ending, host) = texlive(alloc, &words(rt, alloc, &SHOW), host);
-    assert!(rt; ending == Ending::Done);
+fn repaired<R: Abort + Threads + Sync>(rt: &R, alloc: Global, host: MemHost) -> bool {
+    let (ending, host) = carry_out(rt, alloc, &words(rt, alloc, &SHOW), host);
+    assert!(rt; matches!(ending, Ending::Done));
     let after = is_after(rt, alloc, &host);
     let said = if after {
         "autobackup 1\nplatforms \n"
@@ -90,7 +95,12 @@ fn repaired(rt: &impl Abort, alloc: Global, host: MemHost) -> bool {
 }
 
 // Another run repairs each image that a stop before a call could leave; how many of them to the tree after the step.
-fn made_before(rt: &impl Abort, alloc: Global, host: &MemHost, call: u64) -> u64 {
+fn made_before<R: Abort + Threads + Sync>(
+    rt: &R,
+    alloc: Global,
+    host: &MemHost,
+    call: u64,
+) -> u64 {
     let mut made = 0u64;
     for number in 0..CHOICES {
         let stop = host.stop_at(call, &choice(rt, alloc, number));
@@ -105,7 +115,7 @@ fn made_before(rt: &impl Abort, alloc: Global, host: &MemHost, call: u64) -> u64
 fn a_stopped_setting_is_made_or_not(rt: HostRuntime) {
     let alloc = rt.alloc();
     let (ending, made) = set(&rt, alloc, None);
-    assert!(rt; ending == Ending::Done);
+    assert!(rt; matches!(ending, Ending::Done));
     assert!(rt; is_after(&rt, alloc, &made));
     assert_eq!(rt; made.said(), LABEL.as_bytes());
     assert_eq!(rt; made.syncs(), 5);
@@ -121,7 +131,7 @@ fn a_failing_call_ends_the_setting_and_the_next_run_repairs_the_tree(rt: HostRun
     let (_, made) = set(&rt, alloc, None);
     for call in 0..made.calls() {
         let (ending, host) = set(&rt, alloc, Some(call));
-        assert!(rt; ending == Ending::HostFault);
+        assert!(rt; matches!(ending, Ending::HostFault));
         let said = host.said().len();
         assert_eq!(rt; host.calls(), call + 1);
         let after = repaired(&rt, alloc, host);
