@@ -1,6 +1,3 @@
-pub mod Kinds
-pub mod Acted
-pub mod Refusals
-pub mod Run
-pub mod Settings
-pub mod Status
+pub mod Commands
+pub mod Outsides
+pub mod Top

@@ -1,16 +1,9 @@
-//! The top call of the program: it reads a command's words and carries the command out over a host.
+//! The top call of the program: it reads a command's words and carries the command out over the outside.
 #![tactic(auto)]
 
-mod acted;
 pub mod actions;
-mod ending;
-mod load;
-mod refusal;
-mod say;
-mod setting;
 mod top;
 
-pub use acted::Acted;
-pub use ending::Ending;
-pub use refusal::Refusal;
+pub use tl_command::{Acted, Ending, Refusal, Session};
+pub use tl_regexp::Regexps;
 pub use top::texlive;

@@ -1,6 +1,6 @@
 //! The status of each ending, and the lines of refusals.
 use std::test::Fail;
-use tl_db::What;
+use tl_kind::What;
 use tl_object::LineKind;
 use tl_path::Name;
 use tl_tool::{Ending, Refusal};

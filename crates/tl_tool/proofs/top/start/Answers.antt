@@ -1,46 +1,45 @@
-use Rattle.std.proofs.Common.{ℕ, Option, sym, ap, subst, ◌∙◌}
-use Rattle.std.specs.Option.{unwrap_or}
-use Rattle.tl_model.specs.Volume.{Volume}
+use Rattle.std.proofs.Common.{[]}
+use Rattle.std.specs.FinMap as map
+use Rattle.tl_model.specs.Devices.{Outside}
 use Rattle.tl_journal_text.specs.Stand.{tree_of}
-use Rattle.tl_journal.specs.Faults.{IsFault}
-use Rattle.tl_journal.specs.declared.resume.RecoverError.{RecoverError}
-use Rattle.tl_tree.specs.Traces.{resumed_is_cut}
-use Rattle.tl_tool.specs.declared.refusal.Refusal.{Refusal}
-use Rattle.tl_tool.specs.declared.refusal.Refusal.TheVariants.{BadJournal}
-use Rattle.tl_tool.specs.Acted.{IsActed, IsSaid}
-use Rattle.tl_tool.specs.Run.{refused, act_of}
-use Rattle.tl_tool.proofs.Runs.{resumed, some_tree, nothing_cut, acted_after, said_after}
+use Rattle.tl_command.specs.Endings.{no_devices}
+use Rattle.tl_command.proofs.Joins.{performs_alone}
+use Rattle.tl_command.proofs.Wholes.{acted_begun, runs_begun, caused_begun, later_begun}
+use Rattle.tl_tool.specs.Commands.{act_of}
 use Rattle.tl_tool.proofs.top.start.Goals as goal
 
+abbrev no_outside : Outside
+no_outside = record { repositories = []; input = []; verdicts = map.empty }
+
 pub returns-in-Ok-clause-run : goal.returns-in-Ok-clause-run
-returns-in-Ok-clause-run g c t tree stood =
-    let s = g.H.Host.seen in
-    let first = s c.args.host in
-    let mid = c.in-Ok.recovered.journal in
-    let action = c.args.action in
+returns-in-Ok-clause-run g c t outside tree stood =
+    runs_begun g.H.Host.tells g.H.Host.seen (act_of c.args.command outside) (g.H.Host.seen c.args.host) c.in-Ok.session no_devices no_devices c.act.result.ending c.act.result.state
+    c.in-Ok.ensures.begun (c.act.ensures outside) c.end.result.0 (g.H.Host.seen c.end.result.1) c.end.ensures.run c.end.ensures.syncs t tree stood
+
+pub returns-in-Ok-clause-shut : goal.returns-in-Ok-clause-shut
+returns-in-Ok-clause-shut g c t some carried =
+    let first = g.H.Host.seen c.args.host in
+    let mid = c.in-Ok.session in
+    let tree = tree_of mid.present.held in
+    let command = act_of c.args.command no_outside in
+    let begins = c.in-Ok.ensures.begun in
+    c.end.ensures.shut t (command tree) first tree
+    (acted_begun g.H.Host.tells g.H.Host.seen command first mid no_devices no_devices c.act.result.ending c.act.result.state begins (c.act.ensures no_outside) t tree (begins.stood t)) carried
+
+pub returns-in-Ok-clause-cause : goal.returns-in-Ok-clause-cause
+returns-in-Ok-clause-cause g c before after =
+    let first = g.H.Host.seen c.args.host in
+    let mid = c.in-Ok.session in
+    let command = act_of c.args.command no_outside in
+    let begins = c.in-Ok.ensures.begun in
     let ending = c.act.result.ending in
     let state = c.act.result.state in
-    let same = some_tree (tree_of mid.present.held) tree (sym (c.in-Ok.ensures.tree t) ∙ stood) in
-    c.finish.ensures.run t (act_of action tree) first tree
-    (acted_after s (act_of action tree) ending state first mid tree
-    (resumed first mid tree stood (c.in-Ok.ensures.tree t) (c.stands.ensures.tree t) (c.in-Ok.ensures.resumes t).said (c.in-Ok.ensures.resumes t).pictures)
-    (subst (λ (v : Volume). IsActed s (act_of action v) ending state mid v) same (c.act.ensures.run t)))
+    let performs = performs_alone g.H.Host.tells g.H.Host.seen 0 mid before after ending state command (c.act.ensures no_outside) in
+    c.end.ensures.cause first before after (later_begun g.H.Host.tells g.H.Host.seen command first mid before after ending state begins performs)
+    (caused_begun g.H.Host.tells g.H.Host.seen command first mid before after ending state begins performs)
 
-pub returns-in-HostFault-clause-run : goal.returns-in-HostFault-clause-run
-returns-in-HostFault-clause-run g c t tree stood =
-    let first = g.H.Host.seen c.args.host in
-    let last = g.H.Host.seen c.in-Err.field-0.host in
-    nothing_cut first last tree (act_of c.args.action tree).events
-    (resumed_is_cut first last tree stood ((c.in-Err.ensures.resumes t).stands ∙ stood) (c.in-Err.ensures.resumes t).said (c.in-Err.ensures.resumes t).pictures)
+pub returns-in-Ok-clause-words : goal.returns-in-Ok-clause-words
+returns-in-Ok-clause-words g c = let performs = c.act.ensures no_outside in c.end.ensures.words performs.words
 
-pub returns-clause-without : goal.returns-clause-without
-returns-clause-without g c t none =
-    let s = g.H.Host.seen in
-    let first = s c.args.host in
-    let mid = s c.in-Err.field-0.host in
-    let ending = c.refuse_at_once.result.0 in
-    let last = s c.refuse_at_once.result.1 in
-    let bad = subst (λ (f : RecoverError). IsFault first mid f) c.in-BadJournal.is (c.in-Err.ensures.bad t) in
-    let place = ap (λ (o : Option ℕ). BadJournal (unwrap_or o 0)) bad.1 in
-    subst (λ (r : Refusal). IsSaid (refused r) ending first last) (c.bad_journal.ensures.refusal ∙ sym place)
-    (said_after (refused c.bad_journal.result) ending first mid last (c.in-Err.ensures.resumes t).said (c.refuse_at_once.ensures.said t))
+pub returns-in-Err-clause-run : goal.returns-in-Err-clause-run
+returns-in-Err-clause-run g c t outside tree stood = c.in-Err.ensures.ended.run t (act_of c.args.command outside tree) tree stood

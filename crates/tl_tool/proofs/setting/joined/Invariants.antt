@@ -1,6 +1,0 @@
-use Rattle.std.proofs.Common.{◌≡◌, ◌++◌, drop}
-use Rattle.tl_tool.proofs.Joins.{spaced}
-use Rattle.tl_tool.proofs.setting.joined.Given as goal
-
-abbrev pub invariant-loop-word : goal.invariant-loop-word
-invariant-loop-word l = l.value.items ++ spaced (drop l.word-index l.others) ≡ l.fn.first ++ spaced l.others

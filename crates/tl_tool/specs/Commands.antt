@@ -1,0 +1,99 @@
+-- The command that words ask for, and its run.
+use Rattle.std.specs.Prelude.{ℕ, Bool, true, false, not, ◌&&◌, ◌||◌, List, [], ◌∷◌, Option, Some, None, option_map}
+use Rattle.tl_model.specs.Volume.{Volume}
+use Rattle.tl_model.specs.Devices.{Outside}
+use Rattle.tl_tree.specs.Planted.{database_text}
+use Rattle.tl_action.specs.declared.action_name.ActionName.{ActionName}
+use Rattle.tl_action.specs.declared.command.Action.{Action}
+use Rattle.tl_action.specs.declared.command.Action.TheVariants as actions
+use Rattle.tl_action.specs.declared.command.Command.{Command}
+use Rattle.tl_action.specs.declared.table.OptionName.TheVariants.{Formats}
+use Rattle.tl_words.specs.declared.faults.Fault.{Fault}
+use Rattle.tl_words.specs.Parts.{Part}
+use Rattle.tl_words.specs.Faults.{words_fault, program_parts, plains}
+use Rattle.tl_words.specs.Settings.{repositories_of, workers_of, user_of, has_option}
+use Rattle.tl_words.specs.Commands.{first_action, first_word, action_of}
+use Rattle.tl_refusal.specs.declared.refusal.Refusal.TheVariants.{BadWords, BadJournal}
+use Rattle.tl_command.specs.Runs.{Run, finished, refused, over_database}
+use Rattle.tl_command.specs.Whole.{journal_place}
+use Rattle.tl_show.specs.Dump.{dump_run}
+use Rattle.tl_settings.specs.Settings.{option_run}
+
+-- what a command says of the program's words: the root, and of their parts the repositories in order, the workers, 4 where none are
+-- given, the action with its options and operands, the folder of the user's tree, and whether formats are made
+abbrev pub command_with : List ℕ → List Part → ActionName → Command
+command_with root all name = record {
+  root = root;
+  repositories = repositories_of all;
+  workers = workers_of 4 all;
+  action = action_of all name;
+  user = user_of None all;
+  formats = has_option Formats all;
+}
+
+-- the command that words without a fault ask for
+abbrev pub command_at : List (List ℕ) → Option Command
+command_at words = option_map (command_with (first_word words) (program_parts words)) (first_action (plains (program_parts words)))
+
+-- the run of an action; words never ask for one that isn't built
+abbrev pub action_run : Action → Outside → Volume → Run
+action_run (actions.DumpTlpdb local) outside tree = over_database dump_run (database_text tree)
+action_run (actions.Setting option values) outside tree = over_database (option_run option values tree) (database_text tree)
+action_run _ outside tree = finished
+
+-- the run of a command over a tree and the outside
+abbrev pub act_of : Command → Outside → Volume → Run
+act_of command outside tree = action_run command.action outside tree
+
+-- the run of a command; words without a fault have one
+abbrev pub act_at : Option Command → Outside → Volume → Run
+act_at None outside tree = finished
+act_at (Some command) outside tree = act_of command outside tree
+
+-- words are refused at their first fault; without one the command's run is made
+abbrev pub by_words : Option Fault → Run → Run
+by_words (Some fault) run = refused (BadWords fault.at fault.kind)
+by_words None run = run
+
+-- the run of words over a tree and the outside
+abbrev pub run_of : List (List ℕ) → Outside → Volume → Run
+run_of words outside tree = by_words (words_fault words) (act_at (command_at words) outside tree)
+
+-- the run of words over a volume that stands for no tree
+abbrev pub run_without : List (List ℕ) → Volume → Run
+run_without words volume = by_words (words_fault words) (refused (BadJournal (journal_place volume)))
+
+-- whether an action reads repositories
+abbrev pub reads_repositories : Action → Bool
+reads_repositories (actions.Info name) = true
+reads_repositories (actions.Search word) = true
+reads_repositories (actions.Candidates name) = true
+reads_repositories (actions.Install names no_depends no_depends_at_all reinstall) = true
+reads_repositories (actions.Update names every no_auto_install no_auto_remove reinstall_forcibly_removed) = true
+reads_repositories actions.Mirror = true
+reads_repositories actions.Shell = true
+reads_repositories _ = false
+
+-- whether an action reads the input
+abbrev pub reads_input : Action → Bool
+reads_input actions.Edit = true
+reads_input actions.Shell = true
+reads_input _ = false
+
+-- whether all that an action reads tells what it holds: the repositories and the input, where it reads them, and the host
+abbrev pub tells_all : Action → Bool → Bool → Bool → Bool
+tells_all action shelf input host = (not (reads_repositories action) || shelf) && ((not (reads_input action) || input) && host)
+
+-- the same for the command of words without a fault; words with a fault are answered by the host alone
+abbrev pub tells_at : Option Command → Bool → Bool → Bool → Bool
+tells_at None shelf input host = host
+tells_at (Some command) shelf input host = tells_all command.action shelf input host
+
+-- the command of words that have no fault
+abbrev pub command_by : Option Fault → Option Command → Option Command
+command_by (Some fault) command = None
+command_by None command = command
+
+-- whether all that the command of some words reads tells what it holds
+abbrev pub tells_for : List (List ℕ) → Bool → Bool → Bool → Bool
+tells_for words shelf input host = tells_at (command_by (words_fault words) (command_at words)) shelf input host
