@@ -50,5 +50,13 @@ pub(crate) fn carry_out<R: Abort + Threads + Sync>(
     let shelf = MemShelf::new(alloc, Vec::new(alloc));
     let mut shelf = shelf.ok().expect(rt, "a shelf");
     let mut input = MemSource::new(alloc, Vec::new(alloc));
-    texlive(rt, alloc, words, host, &mut shelf, &mut input, &mut Regexps::new())
+    texlive(
+        rt,
+        alloc,
+        words,
+        host,
+        &mut shelf,
+        &mut input,
+        &mut Regexps::new(),
+    )
 }

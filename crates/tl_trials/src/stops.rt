@@ -95,12 +95,7 @@ fn repaired<R: Abort + Threads + Sync>(rt: &R, alloc: Global, host: MemHost) -> 
 }
 
 // Another run repairs each image that a stop before a call could leave; how many of them to the tree after the step.
-fn made_before<R: Abort + Threads + Sync>(
-    rt: &R,
-    alloc: Global,
-    host: &MemHost,
-    call: u64,
-) -> u64 {
+fn made_before<R: Abort + Threads + Sync>(rt: &R, alloc: Global, host: &MemHost, call: u64) -> u64 {
     let mut made = 0u64;
     for number in 0..CHOICES {
         let stop = host.stop_at(call, &choice(rt, alloc, number));

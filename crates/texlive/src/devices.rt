@@ -1,0 +1,127 @@
+//! The real devices, and a command over them.
+use crate::want_of_memory;
+use std::alloc::{AllocError, Global};
+use std::fs::File;
+use std::io::Input;
+use std::rt::Files;
+use std::thread::Threads;
+use tl_real::{FolderHost, FolderShelf, StdSource};
+use tl_tool::{Ending, Regexps, texlive};
+use tl_words::{Command, WordsError, read_words};
+
+// The folder that is meant where none is named.
+const HERE: &[u8] = b".";
+
+// The folders that a command's words name.
+#[derive(Drop)]
+struct Folders {
+    root: Vec<u8>,
+    repositories: Vec<Vec<u8>>,
+}
+
+/// Carries a command out over the folders that its words name, and gives its status. Where the words are no command, the folder is
+/// the one that the program runs in, and there are no repositories.
+pub fn command<R>(rt: &R, words: &[Vec<u8>]) -> u8
+where
+    R: Files<File = File> + Input + Print + Eprint + AllocGlobal + Threads + Sync,
+{
+    match named_folders(rt.alloc(), words) {
+        Ok(folders) => match devices(rt, &folders) {
+            Ok((host, shelf)) => carried_out(rt, words, host, shelf),
+            Err(_) => want_of_memory(rt),
+        },
+        Err(_) => want_of_memory(rt),
+    }
+}
+
+fn named_folders(alloc: Global, words: &[Vec<u8>]) -> Result<Folders, AllocError> {
+    match read_words(alloc, words) {
+        Ok(command) => command_folders(alloc, command),
+        Err(WordsError::BadWords { .. }) => Ok(Folders {
+            root: Vec::from_slice(alloc, HERE)?,
+            repositories: Vec::new(alloc),
+        }),
+        Err(WordsError::NoMemory) => Err(AllocError),
+    }
+}
+
+fn command_folders(alloc: Global, command: Command) -> Result<Folders, AllocError> {
+    let mut repositories = Vec::new(alloc);
+    for repository in command.repositories.as_slice() {
+        repositories.push(folder_of(alloc, repository.folder.as_slice())?)?;
+    }
+    Ok(Folders {
+        root: Vec::from_slice(alloc, command.root.as_slice())?,
+        repositories,
+    })
+}
+
+// A repository of no bytes is the folder that the program runs in.
+fn folder_of(alloc: Global, folder: &[u8]) -> Result<Vec<u8>, AllocError> {
+    Vec::from_slice(alloc, if folder.is_empty() { HERE } else { folder })
+}
+
+fn devices<'r, R: Files<File = File> + Print + AllocGlobal>(
+    rt: &'r R,
+    folders: &Folders,
+) -> Result<(FolderHost<'r, R>, FolderShelf<'r, R>), AllocError> {
+    let host = FolderHost::new(rt, folders.root.as_slice())?;
+    let shelf = FolderShelf::new(rt, folders.repositories.as_slice())?;
+    Ok((host, shelf))
+}
+
+fn carried_out<'r, R>(
+    rt: &'r R,
+    words: &[Vec<u8>],
+    host: FolderHost<'r, R>,
+    shelf: FolderShelf<'r, R>,
+) -> u8
+where
+    R: Files<File = File> + Input + Print + Eprint + AllocGlobal + Threads + Sync,
+{
+    let mut shelf = shelf;
+    let mut input = StdSource::new(rt);
+    let mut regexps = Regexps::new();
+    let (ending, host) = texlive(
+        rt,
+        rt.alloc(),
+        words,
+        host,
+        &mut shelf,
+        &mut input,
+        &mut regexps,
+    );
+    explain(rt, &ending, &host, &shelf, &input);
+    ending.status()
+}
+
+// Says on standard error what no line on standard output says.
+fn explain<R: Files<File = File> + Input + Print + Eprint + AllocGlobal>(
+    rt: &R,
+    ending: &Ending,
+    host: &FolderHost<'_, R>,
+    shelf: &FolderShelf<'_, R>,
+    input: &StdSource<'_, R>,
+) {
+    match ending {
+        Ending::HostFault => {
+            if let Some(failure) = host.failure() {
+                let _ = eprintln!(rt; "texlive: {failure}");
+            }
+        }
+        Ending::ShelfFault => {
+            if let Some(failure) = shelf.failure() {
+                let _ = eprintln!(rt; "texlive: {failure}");
+            }
+        }
+        Ending::InputFault => {
+            if let Some(error) = input.failure() {
+                let _ = eprintln!(rt; "texlive: cannot read standard input: {error}");
+            }
+        }
+        Ending::NoMemory => {
+            let _ = want_of_memory(rt);
+        }
+        Ending::Done | Ending::Refused(_) => {}
+    }
+}
