@@ -1,0 +1,7 @@
+//! Globs: texts that stand for others.
+#![tactic(auto)]
+
+mod glob;
+mod matching;
+
+pub use glob::{Glob, GlobError};
