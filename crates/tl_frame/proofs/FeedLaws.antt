@@ -9,8 +9,8 @@ use Rattle.tl_frame.specs.declared.stage.Stage.TheVariants.{Magic, EntrySize, En
 use Rattle.tl_frame.specs.Scan.{Token, ScanEnd, AtEnd, InField, AtFault, Scan, stop, telling, scan, tokens_of, ending_of, AreBytes, files_from}
 use Rattle.std.specs.List.{flat_map}
 use Rattle.tl_frame.specs.Events.{event_tokens}
-use Rattle.tl_frame.specs.States.{ReaderState, reader_at, told_place, wanted_by, rest_by, rest_from, ending_by, is_spent, is_spent_stage, IsKept, IsAtStage, IsInForm, Leads, IsFed, Moves, Takes, Tells}
-use Rattle.tl_frame.specs.Answers.{feed_by, feed_answer, fault_at, fault_by, finish_at, finish_by, finish_answer}
+use Rattle.tl_frame.specs.States.{ReaderState, reader_of, told_place, wanted_by, rest_by, rest_from, ending_by, is_spent, is_spent_stage, IsKept, IsAtStage, IsInForm, Leads, IsFed, Moves, Takes, Tells}
+use Rattle.tl_frame.specs.Answers.{feed_by, feed_answer, stage_fault, reader_fault, stage_ending, finish_by, finish_answer}
 use Rattle.tl_frame.proofs.FieldLaws.{field_cut, magic_is, entry_size_is, entry_is, count_is, files_is, path_fits, size_is, mark_is, nothing_is, bytes_none}
 use Rattle.tl_frame.proofs.MoveLaws.{rest_is, no_events}
 use Rattle.tl_frame.proofs.StateLaws.{telling_twice}
@@ -120,10 +120,10 @@ module _ (old new : ReaderState) (fed piece : List ℕ) (x y : List FrameEvent) 
   pub piece_ending : ending_of (fed ++ piece) ≡ ending_by new.waiting.stage piece_led.here
   piece_ending = ending_led new (fed ++ piece) (tokens_of (fed ++ piece)) t.moves.form t.moves.live piece_led
 
-  pub piece_answer : fault_by new ≡ feed_answer (is_spent new) (fed ++ piece)
-  piece_answer = ap (λ (p : ℕ). fault_at new.waiting.stage p) piece_led.place ∙ by new.waiting.stage piece_led.here piece_ending t.moves.live
+  pub piece_answer : reader_fault new ≡ feed_answer (is_spent new) (fed ++ piece)
+  piece_answer = ap (λ (p : ℕ). stage_fault new.waiting.stage p) piece_led.place ∙ by new.waiting.stage piece_led.here piece_ending t.moves.live
     where
-      by : (stage : Stage) (here : ℕ) → ending_of (fed ++ piece) ≡ ending_by stage here → is_spent_stage stage ≡ false → fault_at stage (told_place here) ≡ feed_answer (is_spent_stage stage) (fed ++ piece)
+      by : (stage : Stage) (here : ℕ) → ending_of (fed ++ piece) ≡ ending_by stage here → is_spent_stage stage ≡ false → stage_fault stage (told_place here) ≡ feed_answer (is_spent_stage stage) (fed ++ piece)
       by Spent here ending live = absurd cc
       by _ here ending live = sym (ap feed_by ending)
 
@@ -145,7 +145,7 @@ unfolding scan
 scan_none = magic_is 0 [] ∙ field_cut 8 0 [] _ (omega arith)
 
 -- a reader to which nothing has come
-pub leads_none : (w : Waiting) (kept last : List ℕ) → w.stage ≡ Magic → w.place ≡ 0 → kept ≡ [] → Leads (reader_at w kept last) [] (tokens_of [])
+pub leads_none : (w : Waiting) (kept last : List ℕ) → w.stage ≡ Magic → w.place ≡ 0 → kept ≡ [] → Leads (reader_of w kept last) [] (tokens_of [])
 unfolding scan
 leads_none w kept last stage place none = record {
   here = 0;
@@ -158,22 +158,22 @@ leads_none w kept last stage place none = record {
 }
 
 -- whether a frame has ended
-pub finish_led : (s : ReaderState) (fed : List ℕ) → IsInForm s.waiting s.kept s.last → IsFed s fed → finish_at s.waiting.stage s.waiting.place ≡ finish_answer (is_spent s) fed
+pub finish_led : (s : ReaderState) (fed : List ℕ) → IsInForm s.waiting s.kept s.last → IsFed s fed → stage_ending s.waiting.stage s.waiting.place ≡ finish_answer (is_spent s) fed
 finish_led s fed form is = by s.waiting.stage refl
   where
-    ends : (stage : Stage) (here : ℕ) → is_spent_stage stage ≡ false → finish_at stage (told_place here) ≡ finish_by (ending_by stage here)
+    ends : (stage : Stage) (here : ℕ) → is_spent_stage stage ≡ false → stage_ending stage (told_place here) ≡ finish_by (ending_by stage here)
     ends Spent here live = absurd cc
     ends Ended here live = refl
     ends Faulty here live = refl
     ends _ here live = refl
 
-    lives : (stage : Stage) → s.waiting.stage ≡ stage → is_spent_stage stage ≡ false → finish_at stage s.waiting.place ≡ finish_answer false fed
+    lives : (stage : Stage) → s.waiting.stage ≡ stage → is_spent_stage stage ≡ false → stage_ending stage s.waiting.place ≡ finish_answer false fed
     lives stage same live =
         let alive : is_spent s ≡ false = ap is_spent_stage same ∙ live in
         let leads = is alive in
-        ap (λ (p : ℕ). finish_at stage p) leads.place ∙ ends stage leads.here live ∙ ap (λ (t : Stage). finish_by (ending_by t leads.here)) (sym same) ∙ sym (ap finish_by (ending_led s fed (tokens_of fed) form alive leads))
+        ap (λ (p : ℕ). stage_ending stage p) leads.place ∙ ends stage leads.here live ∙ ap (λ (t : Stage). finish_by (ending_by t leads.here)) (sym same) ∙ sym (ap finish_by (ending_led s fed (tokens_of fed) form alive leads))
 
-    by : (stage : Stage) → s.waiting.stage ≡ stage → finish_at stage s.waiting.place ≡ finish_answer (is_spent_stage stage) fed
+    by : (stage : Stage) → s.waiting.stage ≡ stage → stage_ending stage s.waiting.place ≡ finish_answer (is_spent_stage stage) fed
     by Spent same = refl
     by Magic same = lives Magic same refl
     by EntrySize same = lives EntrySize same refl

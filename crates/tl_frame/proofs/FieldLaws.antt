@@ -6,7 +6,7 @@ use Rattle.std.proofs.lemmas.Bool.{cases_lt, lt-ltb, le-ltb}
 use Rattle.std.proofs.Math.Seq.{take-append-add, drop-append-add}
 use Rattle.std.proofs.lemmas.List.{take_at, drop_at, append_assoc, map-append}
 use Rattle.tl_frame.specs.Frames.{frame_magic, frame_mark}
-use Rattle.tl_frame.specs.Scan.{Token, EntryText, FileHead, FileByte, FrameEnd, AtEnd, InField, AtFault, Scan, stop, telling, field_from, nothing_from, mark_from, bytes_from, size_from, is_later_path, path_from, files_from, count_from, entry_from, entry_size_from, magic_from}
+use Rattle.tl_frame.specs.Scan.{Token, EntryText, FileHead, FileByte, FrameEnd, AtEnd, InField, AtFault, Scan, stop, telling, field_from, nothing_from, mark_from, content_from, size_from, is_later_path, path_from, files_from, count_from, entry_from, entry_size_from, magic_from}
 
 pub field_whole : (size from : ℕ) (xs rest : List ℕ) (go : List ℕ → List ℕ → Scan) → length xs ≡ size → field_from size from (xs ++ rest) go ≡ go xs rest
 unfolding field_from
@@ -20,8 +20,8 @@ unfolding field_from
 field_cut size from text go short = ap (λ b. cond b (stop (InField from)) (go (take size text) (drop size text))) (lt-ltb (length text) size short)
 
 -- the bytes of a file, part by part
-bytes_more : (n from : ℕ) (xs more : List ℕ) (go : List ℕ → Scan) → bytes_from (length xs + n) from (xs ++ more) go ≡ telling (map FileByte xs) (bytes_from n from more go)
-unfolding bytes_from
+bytes_more : (n from : ℕ) (xs more : List ℕ) (go : List ℕ → Scan) → content_from (length xs + n) from (xs ++ more) go ≡ telling (map FileByte xs) (content_from n from more go)
+unfolding content_from
 bytes_more n from xs more go = elim (cases_lt (length more) n) [
   | inl few ↦
       ap (λ b. cond b (record { tokens = map FileByte (xs ++ more); ending = InField from }) (telling (map FileByte (take (length xs + n) (xs ++ more))) (go (drop (length xs + n) (xs ++ more))))) (lt-ltb (length (xs ++ more)) (length xs + n) (omega (arith, length-append xs more)))
@@ -37,24 +37,24 @@ bytes_more n from xs more go = elim (cases_lt (length more) n) [
 ]
 
 pub bytes_part : (left from : ℕ) (xs more : List ℕ) (go : List ℕ → Scan) → length xs ≤ left
-    → bytes_from left from (xs ++ more) go ≡ telling (map FileByte xs) (bytes_from (left - length xs) from more go)
+    → content_from left from (xs ++ more) go ≡ telling (map FileByte xs) (content_from (left - length xs) from more go)
 bytes_part left from xs more go within =
-    ap (λ (n : ℕ). bytes_from n from (xs ++ more) go) (omega arith) ∙ bytes_more (left - length xs) from xs more go
+    ap (λ (n : ℕ). content_from n from (xs ++ more) go) (omega arith) ∙ bytes_more (left - length xs) from xs more go
 
 -- where none are to come
-pub bytes_done : (from : ℕ) (more : List ℕ) (go : List ℕ → Scan) → bytes_from 0 from more go ≡ go more
-unfolding bytes_from
+pub bytes_done : (from : ℕ) (more : List ℕ) (go : List ℕ → Scan) → content_from 0 from more go ≡ go more
+unfolding content_from
 bytes_done from more go = ap (λ b. cond b (record { tokens = map FileByte more; ending = InField from }) (telling (map FileByte (take 0 more)) (go (drop 0 more)))) (le-ltb (length more) 0 (omega arith))
 
-pub bytes_whole : (left from : ℕ) (xs more : List ℕ) (go : List ℕ → Scan) → length xs ≡ left → bytes_from left from (xs ++ more) go ≡ telling (map FileByte xs) (go more)
+pub bytes_whole : (left from : ℕ) (xs more : List ℕ) (go : List ℕ → Scan) → length xs ≡ left → content_from left from (xs ++ more) go ≡ telling (map FileByte xs) (go more)
 bytes_whole left from xs more go is =
     let none : left - length xs ≡ 0 = omega arith in
     bytes_part left from xs more go (omega arith)
-    ∙ ap (λ (n : ℕ). telling (map FileByte xs) (bytes_from n from more go)) none
+    ∙ ap (λ (n : ℕ). telling (map FileByte xs) (content_from n from more go)) none
     ∙ ap (λ (s : Scan). telling (map FileByte xs) s) (bytes_done from more go)
 
-pub bytes_none : (left from : ℕ) (go : List ℕ → Scan) → 0 < left → bytes_from left from [] go ≡ stop (InField from)
-unfolding bytes_from
+pub bytes_none : (left from : ℕ) (go : List ℕ → Scan) → 0 < left → content_from left from [] go ≡ stop (InField from)
+unfolding content_from
 bytes_none left from go some = ap (λ b. cond b (stop (InField from)) (telling (map FileByte (take left [])) (go (drop left [])))) (lt-ltb 0 left some)
 
 pub magic_is : (from : ℕ) (text : List ℕ) → magic_from from text ≡ field_from 8 from text (λ magic rest. cond (bytes_eq magic frame_magic) (entry_size_from (from + 8) rest) (stop (AtFault from)))
@@ -87,7 +87,7 @@ unfolding path_from
 path_is size last from text go = refl
 
 pub size_is : (path : List ℕ) (from : ℕ) (text : List ℕ) (go : List ℕ → ℕ → List ℕ → Scan) → size_from path from text go
-    ≡ field_from 8 from text (λ size rest. telling (FileHead path (from_be_bytes w64 size) ∷ []) (bytes_from (from_be_bytes w64 size) (from + 8) rest (go path (from + 8 + from_be_bytes w64 size))))
+    ≡ field_from 8 from text (λ size rest. telling (FileHead path (from_be_bytes w64 size) ∷ []) (content_from (from_be_bytes w64 size) (from + 8) rest (go path (from + 8 + from_be_bytes w64 size))))
 unfolding size_from
 size_is path from text go = refl
 

@@ -1,16 +1,18 @@
 -- What a frame tells.
-use Rattle.std.proofs.Common.{◌≡◌, ◌<◌, ◌+◌, ◌^◌, ℕ, suc, Bool, true, false, cond, List, [], ◌∷◌, ◌++◌, length, None, refl, sym, ◌∙◌, ap, arith, append_assoc, eqb}
+use Rattle.std.proofs.Common.{◌≡◌, ◌<◌, ◌+◌, ◌^◌, ℕ, suc, Bool, true, false, cond, List, [], ◌∷◌, ◌++◌, length, None, refl, sym, ◌∙◌, ap, arith, append_assoc, eqb, length-append}
 use Rattle.std.specs.Prelude.{map}
 use Rattle.std.specs.List.{AllByRecursion, flat_map}
 use Rattle.std.specs.Int.{w16, w32, w64, to_be_bytes}
 use Rattle.std.specs.Ordering.{nat_cmp, is_lt}
 use Rattle.std.specs.Cmp.Lexicographic.{slice_cmp}
 use Rattle.std.proofs.lemmas.List.{append-nil, nil_from_length}
+use Rattle.std.proofs.lemmas.Grind.{flat_map-append}
 use Rattle.std.proofs.lemmas.Bool.{and_parts, and_from, eqb-true}
 use Rattle.std.proofs.lemmas.Nat.{from_be_bytes-to_be_bytes_2, from_be_bytes-to_be_bytes_4, from_be_bytes-to_be_bytes_8}
 use Rattle.tl_file.specs.declared.file.FileBytes.{FileBytes}
 use Rattle.tl_frame.specs.Frames.{frame_magic, frame_mark, framed_file, frame, paths_rise, paths_rise_behind, FitsFrame, HaveFrame, IsFrame}
-use Rattle.tl_frame.specs.Scan.{Token, EntryText, FileHead, FileByte, FrameEnd, AtEnd, AtFault, Scan, stop, telling, scan, frame_fault, place_in, file_tokens, frame_tokens, nothing_from, mark_from, bytes_from, size_from, path_from, files_from, entry_from, magic_from}
+use Rattle.tl_frame.specs.Scan.{Token, EntryText, FileHead, FileByte, FrameEnd, AtEnd, AtFault, Scan, stop, telling, scan, frame_fault, place_in, file_tokens, frame_tokens, nothing_from, mark_from, content_from, size_from, path_from, files_from, entry_from, magic_from}
+use Rattle.tl_frame.specs.States.{told_place}
 use Rattle.tl_frame.proofs.FieldLaws.{field_whole, bytes_whole, magic_is, entry_size_is, entry_is, count_is, files_is, no_files_is, path_fits, size_is, mark_is, nothing_is}
 use Rattle.tl_frame.proofs.StateLaws.{telling_twice}
 use Rattle.tl_frame.proofs.PathLaws.{path_short, path_some, path_later}
@@ -32,7 +34,7 @@ size_told : (path bytes rest : List ℕ) (from : ℕ) (go : List ℕ → ℕ →
 size_told path bytes rest from go small =
     size_is path from (to_be_bytes w64 (length bytes) ++ (bytes ++ rest)) go
     ∙ field_whole 8 from (to_be_bytes w64 (length bytes)) (bytes ++ rest) _ refl
-    ∙ ap (λ (n : ℕ). telling (FileHead path n ∷ []) (bytes_from n (from + 8) (bytes ++ rest) (go path (from + 8 + n)))) (from_be_bytes-to_be_bytes_8 (length bytes) small)
+    ∙ ap (λ (n : ℕ). telling (FileHead path n ∷ []) (content_from n (from + 8) (bytes ++ rest) (go path (from + 8 + n)))) (from_be_bytes-to_be_bytes_8 (length bytes) small)
     ∙ ap (λ (s : Scan). telling (FileHead path (length bytes) ∷ []) s) (bytes_whole (length bytes) (from + 8) bytes rest (go path (from + 8 + length bytes)) refl)
 
 file_told : (f : FileBytes) (rest : List ℕ) (count : ℕ) (last : List ℕ) (from : ℕ) → FitsFrame f → is_lt (slice_cmp nat_cmp last f.path) ≡ true
@@ -158,3 +160,29 @@ frame_pushed entry fs none one two three four five six z a b c d e f =
     ∙ append_assoc (((frame_magic ++ size) ++ entry)) count (files ++ frame_mark)
     ∙ append_assoc (frame_magic ++ size) entry (count ++ (files ++ frame_mark))
     ∙ append_assoc frame_magic size (entry ++ (count ++ (files ++ frame_mark)))
+
+-- ---- how long a frame is
+
+pub length-framed_file : (f : FileBytes) → length (framed_file f) ≡ 10 + length f.path + length f.bytes
+unfolding framed_file
+length-framed_file f =
+    let size = to_be_bytes w64 (length f.bytes) in
+    omega (arith, length-append (to_be_bytes w16 (length f.path)) (f.path ++ (size ++ f.bytes)), length-append f.path (size ++ f.bytes), length-append size f.bytes)
+
+pub length-frame : (entry : List ℕ) (fs : List FileBytes) → length (frame entry fs) ≡ 24 + length entry + length (flat_map framed_file fs)
+unfolding frame
+length-frame entry fs =
+    let files = flat_map framed_file fs in
+    let count = to_be_bytes w32 (length fs) in
+    omega (arith, length-append entry (count ++ (files ++ frame_mark)), length-append files frame_mark)
+
+-- one file more
+pub length-files-push : (fs : List FileBytes) (f : FileBytes) → length (flat_map framed_file (fs ++ f ∷ [])) ≡ length (flat_map framed_file fs) + (10 + length f.path + length f.bytes)
+length-files-push fs f =
+    ap length (flat_map-append framed_file fs (f ∷ []) ∙ ap (λ (l : List ℕ). flat_map framed_file fs ++ l) (append-nil (framed_file f)))
+    ∙ length-append (flat_map framed_file fs) (framed_file f)
+    ∙ ap (λ (n : ℕ). length (flat_map framed_file fs) + n) (length-framed_file f)
+
+-- a size that stands still at the greatest number, with one file more
+pub size_more : (n size a b r p q : ℕ) → size ≡ told_place n → a ≡ told_place (size + 10) → b ≡ told_place (a + p) → r ≡ told_place (b + q) → r ≡ told_place (n + (10 + p + q))
+size_more n size a b r p q is one two three = omega arith

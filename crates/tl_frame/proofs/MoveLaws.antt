@@ -9,13 +9,13 @@ use Rattle.tl_frame.specs.declared.stage.Waiting.{Waiting}
 use Rattle.tl_frame.specs.declared.stage.Stage.{Stage}
 use Rattle.tl_frame.specs.declared.stage.Stage.TheVariants.{Magic, EntrySize, EntryText, Count, PathSize, PathText, Size, Content, Mark, Ended, Faulty}
 use Rattle.tl_frame.specs.Frames.{frame_magic, frame_mark}
-use Rattle.tl_frame.specs.Scan.{Token, EntryText as text_token, FileHead, FrameEnd, AtFault, Scan, stop, telling, nothing_from, bytes_from, size_from, is_later_path, path_from, files_from, count_from, entry_from, entry_size_from}
+use Rattle.tl_frame.specs.Scan.{Token, EntryText as text_token, FileHead, FrameEnd, AtFault, Scan, stop, telling, nothing_from, content_from, size_from, is_later_path, path_from, files_from, count_from, entry_from, entry_size_from}
 use Rattle.tl_frame.specs.Events.{AddsEvents, HasBytes, event_tokens}
 use Rattle.tl_frame.specs.States.{at_field, told_place, rest_by, rest_from, is_spent_stage, IsInForm, Moves, before_files}
 use Rattle.tl_frame.proofs.PathLaws.{later_is_path}
 use Rattle.tl_frame.proofs.FieldLaws.{field_whole, magic_is, entry_size_is, entry_is, count_is, files_is, no_files_is, path_fits, path_wrong, path_empty, size_is, mark_is, bytes_done}
 
-pub place_behind : (place here size : ℕ) → place ≡ told_place here → min (place + size) (2 ^ 64 - 1) ≡ told_place (here + size)
+pub place_behind : (place here size : ℕ) → place ≡ told_place here → told_place (place + size) ≡ told_place (here + size)
 place_behind place here size is = omega arith
 
 pub no_events : (events : List FrameEvent) → AddsEvents events events []
@@ -39,7 +39,7 @@ abbrev pub here_at : Waiting → Stage → Waiting
 here_at w stage = record w { stage = stage }
 
 abbrev pub behind_at : Waiting → ℕ → Stage → Waiting
-behind_at w size stage = record w { stage = stage; place = min (w.place + size) (2 ^ 64 - 1) }
+behind_at w size stage = record w { stage = stage; place = told_place (w.place + size) }
 
 -- a field that is wrong
 pub moves_wrong : (w new : Waiting) (last field : List ℕ) (events : List FrameEvent) → new ≡ here_at w Faulty
@@ -59,7 +59,7 @@ moves_on w new size stage last last' field before after tokens is adds form live
     (moved w (behind_at w size stage) last last' field before after tokens (λ here. here + size) adds form live (λ here at. place_behind w.place here size at) rest)
 
 -- a field behind which files come, or the mark
-pub moves_files : (w new : Waiting) (size files : ℕ) (last last' field : List ℕ) (before after : List FrameEvent) (tokens : List Token) → new ≡ before_files (min (w.place + size) (2 ^ 64 - 1)) files
+pub moves_files : (w new : Waiting) (size files : ℕ) (last last' field : List ℕ) (before after : List FrameEvent) (tokens : List Token) → new ≡ before_files (told_place (w.place + size)) files
     → AddsEvents before after tokens
     → ((here : ℕ) (more : List ℕ) → rest_from w last here (field ++ more) ≡ telling tokens (files_from files last' (here + size) more))
     → Moves (at_field w last) (at_field new last') field before after
@@ -67,13 +67,13 @@ moves_files w new size files last last' field before after tokens is adds rest =
     subst (λ (n : Waiting). Moves (at_field w last) (at_field n last') field before after) (sym is) (by files rest)
   where
     by : (files : ℕ) → ((here : ℕ) (more : List ℕ) → rest_from w last here (field ++ more) ≡ telling tokens (files_from files last' (here + size) more))
-        → Moves (at_field w last) (at_field (before_files (min (w.place + size) (2 ^ 64 - 1)) files) last') field before after
+        → Moves (at_field w last) (at_field (before_files (told_place (w.place + size)) files) last') field before after
     by zero rest =
-        moved w (before_files (min (w.place + size) (2 ^ 64 - 1)) zero) last last' field before after tokens (λ here. here + size) adds (record { kept_less = omega arith; at_stage = tt }) refl
+        moved w (before_files (told_place (w.place + size)) zero) last last' field before after tokens (λ here. here + size) adds (record { kept_less = omega arith; at_stage = tt }) refl
         (λ here at. place_behind w.place here size at)
         (λ here more. rest here more ∙ ap (λ (s : Scan). telling tokens s) (no_files_is last' (here + size) more))
     by (suc files) rest =
-        moved w (before_files (min (w.place + size) (2 ^ 64 - 1)) (suc files)) last last' field before after tokens (λ here. here + size) adds (record { kept_less = omega arith; at_stage = tt }) refl
+        moved w (before_files (told_place (w.place + size)) (suc files)) last last' field before after tokens (λ here. here + size) adds (record { kept_less = omega arith; at_stage = tt }) refl
         (λ here at. place_behind w.place here size at) rest
 
 pub moves_magic : (w new : Waiting) (field : List ℕ) (events : List FrameEvent) → w.stage ≡ Magic → length field ≡ 8 → bytes_eq field frame_magic ≡ true
@@ -119,7 +119,7 @@ moves_entry w new field text before after stage same added is =
     ∙ ap (λ (l : List ℕ). telling (text_token l ∷ []) (count_from (here + length field) more)) (sym same))
 
 pub moves_count : (w new : Waiting) (count : ℕ) (field : List ℕ) (events : List FrameEvent) → w.stage ≡ Count → length field ≡ 4 → count ≡ from_be_bytes w32 field
-    → new ≡ before_files (min (w.place + 4) (2 ^ 64 - 1)) count → Moves (at_field w []) (at_field new []) field events events
+    → new ≡ before_files (told_place (w.place + 4)) count → Moves (at_field w []) (at_field new []) field events events
 moves_count w new count field events stage four told is =
     moves_files w new 4 count [] [] field events events [] is (no_events events)
     (λ here more. rest_is w Count stage [] here (field ++ more) ∙ count_is here (field ++ more) ∙ field_whole 4 here field more _ four
@@ -171,29 +171,29 @@ moves_other_path w new last field events stage few other is =
 
 -- from the number of a file's bytes on
 size_rest : (w : Waiting) (path last field : List ℕ) (len : ℕ) → w.stage ≡ Size → length field ≡ 8 → path ≡ last → len ≡ from_be_bytes w64 field → (here : ℕ) (more : List ℕ)
-    → rest_from w last here (field ++ more) ≡ telling (FileHead path len ∷ []) (bytes_from len (here + 8) more (files_from w.files last (here + 8 + len)))
+    → rest_from w last here (field ++ more) ≡ telling (FileHead path len ∷ []) (content_from len (here + 8) more (files_from w.files last (here + 8 + len)))
 size_rest w path last field len stage eight same told here more =
     rest_is w Size stage last here (field ++ more) ∙ size_is last here (field ++ more) (files_from w.files) ∙ field_whole 8 here field more _ eight
-    ∙ ap (λ (n : ℕ). telling (FileHead last n ∷ []) (bytes_from n (here + 8) more (files_from w.files last (here + 8 + n)))) (sym told)
-    ∙ ap (λ (l : List ℕ). telling (FileHead l len ∷ []) (bytes_from len (here + 8) more (files_from w.files last (here + 8 + len)))) (sym same)
+    ∙ ap (λ (n : ℕ). telling (FileHead last n ∷ []) (content_from n (here + 8) more (files_from w.files last (here + 8 + n)))) (sym told)
+    ∙ ap (λ (l : List ℕ). telling (FileHead l len ∷ []) (content_from len (here + 8) more (files_from w.files last (here + 8 + len)))) (sym same)
 
 pub moves_size : (w new : Waiting) (path last field : List ℕ) (len : ℕ) (before after : List FrameEvent) → w.stage ≡ Size → length field ≡ 8 → path ≡ last → len ≡ from_be_bytes w64 field → 0 < len
-    → after ≡ before ++ event.File path len ∷ [] → new ≡ record w { stage = Content len; place = min (w.place + 8) (2 ^ 64 - 1); size = len }
+    → after ≡ before ++ event.File path len ∷ [] → new ≡ record w { stage = Content len; place = told_place (w.place + 8); size = len }
     → Moves (at_field w last) (at_field new last) field before after
 moves_size w new path last field len before after stage eight same told some added is =
     subst (λ (n : Waiting). Moves (at_field w last) (at_field n last) field before after) (sym is)
-    (moved w (record w { stage = Content len; place = min (w.place + 8) (2 ^ 64 - 1); size = len }) last last field before after (event_tokens (event.File path len)) (λ here. here + 8)
+    (moved w (record w { stage = Content len; place = told_place (w.place + 8); size = len }) last last field before after (event_tokens (event.File path len)) (λ here. here + 8)
     (one_event before after (event.File path len) added tt) (record { kept_less = refl; at_stage = some }) refl (λ here at. place_behind w.place here 8 at)
     (size_rest w path last field len stage eight same told))
 
 -- a file without bytes
 pub moves_no_bytes : (w new : Waiting) (path last field : List ℕ) (len : ℕ) (before after : List FrameEvent) → w.stage ≡ Size → length field ≡ 8 → path ≡ last → len ≡ from_be_bytes w64 field → len ≡ 0
-    → after ≡ before ++ event.File path len ∷ [] → new ≡ before_files (min (w.place + 8) (2 ^ 64 - 1)) w.files
+    → after ≡ before ++ event.File path len ∷ [] → new ≡ before_files (told_place (w.place + 8)) w.files
     → Moves (at_field w last) (at_field new last) field before after
 moves_no_bytes w new path last field len before after stage eight same told none added is =
     moves_files w new 8 w.files last last field before after (event_tokens (event.File path len)) is (one_event before after (event.File path len) added tt)
     (λ here more. size_rest w path last field len stage eight same told here more
-    ∙ ap (λ (n : ℕ). telling (FileHead path len ∷ []) (bytes_from n (here + 8) more (files_from w.files last (here + 8 + n)))) none
+    ∙ ap (λ (n : ℕ). telling (FileHead path len ∷ []) (content_from n (here + 8) more (files_from w.files last (here + 8 + n)))) none
     ∙ ap (λ (s : Scan). telling (FileHead path len ∷ []) s) (bytes_done (here + 8) more (files_from w.files last (here + 8 + 0)))
     ∙ nothing here more)
   where

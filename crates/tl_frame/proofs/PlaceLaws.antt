@@ -7,7 +7,7 @@ use Rattle.tl_file.specs.declared.file.FileBytes.{FileBytes}
 use Rattle.tl_frame.specs.declared.error.FrameError.{FrameError}
 use Rattle.tl_frame.specs.declared.error.FrameError.TheVariants.{BadFrame, NoMemory}
 use Rattle.tl_frame.specs.Frames.{frame_magic, frame_mark, IsFrame}
-use Rattle.tl_frame.specs.Scan.{FileByte, FrameEnd, ScanEnd, AtEnd, InField, AtFault, Scan, stop, telling, scan, ending_of, frame_fault, place_in, field_from, nothing_from, mark_from, bytes_from, size_from, is_later_path, path_from, files_from, count_from, entry_from, entry_size_from, magic_from}
+use Rattle.tl_frame.specs.Scan.{FileByte, FrameEnd, ScanEnd, AtEnd, InField, AtFault, Scan, stop, telling, scan, ending_of, frame_fault, place_in, field_from, nothing_from, mark_from, content_from, size_from, is_later_path, path_from, files_from, count_from, entry_from, entry_size_from, magic_from}
 use Rattle.tl_frame.specs.States.{told_place}
 use Rattle.tl_frame.specs.Answers.{IsFrameErrorOf, feed_by, feed_answer, finish_by, finish_answer}
 use Rattle.tl_frame.proofs.FieldLaws.{magic_is, entry_size_is, entry_is, count_is, files_is, no_files_is, path_is, size_is, mark_is, nothing_is}
@@ -29,8 +29,8 @@ module _ (most : ℕ) where
       cond_both (nat_lt (length text) size) (stop (InField from)) (go (take size text) (drop size text)) (IsWithin most) (λ cut. omega arith)
       (λ enough. behind (take size text) (drop size text) (omega (arith, ltb-false _ _ enough, length-drop size text)))
 
-  bytes_within : (left from : ℕ) (text : List ℕ) (go : List ℕ → Scan) → from + length text ≡ most → ((rest : List ℕ) → from + left + length rest ≡ most → IsWithin most (go rest)) → IsWithin most (bytes_from left from text go)
-  unfolding bytes_from
+  bytes_within : (left from : ℕ) (text : List ℕ) (go : List ℕ → Scan) → from + length text ≡ most → ((rest : List ℕ) → from + left + length rest ≡ most → IsWithin most (go rest)) → IsWithin most (content_from left from text go)
+  unfolding content_from
   bytes_within left from text go here behind =
       cond_both (nat_lt (length text) left) (record { tokens = map FileByte text; ending = InField from }) (telling (map FileByte (take left text)) (go (drop left text))) (IsWithin most) (λ cut. omega arith)
       (λ enough. behind (drop left text) (omega (arith, ltb-false _ _ enough, length-drop left text)))

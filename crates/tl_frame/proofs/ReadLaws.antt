@@ -11,7 +11,7 @@ use Rattle.std.proofs.lemmas.Nat.{be_bytes_2, be_bytes_4, be_bytes_8}
 use Rattle.std.proofs.lemmas.Slice.Eq.{bytes_eq-Decides}
 use Rattle.tl_file.specs.declared.file.FileBytes.{FileBytes}
 use Rattle.tl_frame.specs.Frames.{frame_magic, frame_mark, framed_file, frame, paths_rise, paths_rise_behind, FitsFrame, IsFrame}
-use Rattle.tl_frame.specs.Scan.{FileByte, AtEnd, InField, AtFault, Scan, stop, telling, scan, ending_of, AreBytes, field_from, mark_from, bytes_from, size_from, is_later_path, path_from, files_from, count_from, entry_from, entry_size_from}
+use Rattle.tl_frame.specs.Scan.{FileByte, AtEnd, InField, AtFault, Scan, stop, telling, scan, ending_of, AreBytes, field_from, mark_from, content_from, size_from, is_later_path, path_from, files_from, count_from, entry_from, entry_size_from}
 use Rattle.tl_frame.specs.States.{IsWhole}
 use Rattle.tl_frame.proofs.FieldLaws.{magic_is, entry_size_is, entry_is, count_is, files_is, no_files_is, path_is, size_is, mark_is, nothing_is}
 use Rattle.tl_frame.proofs.FeedLaws.{bytes_front}
@@ -50,9 +50,9 @@ field_inv size from text go are ends = by (nat_lt (length text) size) refl ends
     by true same ends = absurd cc
     by false same ends = (split_at size text (ltb-false _ _ same) are, ends)
 
-bytes_inv : (left from : ℕ) (text : List ℕ) (go : List ℕ → Scan) → AreBytes text → (bytes_from left from text go).ending ≡ AtEnd
+bytes_inv : (left from : ℕ) (text : List ℕ) (go : List ℕ → Scan) → AreBytes text → (content_from left from text go).ending ≡ AtEnd
     → (s : Split left text) × ((go s.rest).ending ≡ AtEnd)
-unfolding bytes_from
+unfolding content_from
 bytes_inv left from text go are ends = by (nat_lt (length text) left) refl ends
   where
     by : (b : Bool) → nat_lt (length text) left ≡ b → (cond b (record { tokens = map FileByte text; ending = InField from }) (telling (map FileByte (take left text)) (go (drop left text)))).ending ≡ AtEnd

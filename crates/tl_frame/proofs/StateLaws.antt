@@ -10,9 +10,9 @@ use Rattle.tl_frame.specs.declared.event.FrameEvent.TheVariants as event
 use Rattle.tl_frame.specs.declared.stage.Waiting.{Waiting}
 use Rattle.tl_frame.specs.declared.stage.Stage.{Stage}
 use Rattle.tl_frame.specs.declared.stage.Stage.TheVariants.{Content, Ended, Faulty, Spent}
-use Rattle.tl_frame.specs.Scan.{Token, FileByte, AtEnd, AtFault, Scan, stop, telling, bytes_from, files_from}
+use Rattle.tl_frame.specs.Scan.{Token, FileByte, AtEnd, AtFault, Scan, stop, telling, content_from, files_from}
 use Rattle.tl_frame.specs.Events.{AddsEvents, HasBytes, event_tokens}
-use Rattle.tl_frame.specs.States.{ReaderState, reader_at, at_field, wanted_by, rest_from, is_spent, is_spent_stage, IsKept, IsInForm, GoesOn, Moves, Takes, before_files}
+use Rattle.tl_frame.specs.States.{told_place, ReaderState, reader_of, at_field, wanted_by, rest_from, is_spent, is_spent_stage, IsKept, IsInForm, GoesOn, Moves, Takes, before_files}
 use Rattle.tl_frame.proofs.FieldLaws.{nothing_is, bytes_whole, bytes_part}
 use Rattle.tl_frame.proofs.MoveLaws.{no_events, one_event, rest_is, moves_wrong, moves_files, moved, here_at}
 
@@ -72,7 +72,7 @@ live_wanted _ n is = refl
 
 -- less than what lacks came
 pub moves_kept : (w : Waiting) (kept kept' last piece : List ℕ) (wanted : ℕ) (events : List FrameEvent) → wanted_by w.stage ≡ Some wanted → IsInForm w kept last
-    → length kept + length piece < wanted → kept' ≡ kept ++ piece → Takes (reader_at w kept last) (reader_at w kept' last) piece [] events events
+    → length kept + length piece < wanted → kept' ≡ kept ++ piece → Takes (reader_of w kept last) (reader_of w kept' last) piece [] events events
 moves_kept w kept kept' last piece wanted events is form less same = record {
   front = piece;
   split = sym (append-nil piece);
@@ -91,7 +91,7 @@ moves_kept w kept kept' last piece wanted events is form less same = record {
 
 -- a field came behind what was kept of it
 pub moves_behind : (w new : Waiting) (kept last last' front field : List ℕ) (x y : List FrameEvent) → field ≡ kept ++ front → Moves (at_field w last) (at_field new last') field x y
-    → Moves (reader_at w kept last) (at_field new last') front x y
+    → Moves (reader_of w kept last) (at_field new last') front x y
 moves_behind w new kept last last' front field x y same moves = record {
   tokens = moves.tokens;
   adds = moves.adds;
@@ -111,7 +111,7 @@ moves_behind w new kept last last' front field x y same moves = record {
 
 -- the end has come, and something behind it
 pub takes_ended : (w new : Waiting) (last piece : List ℕ) (events : List FrameEvent) → w.stage ≡ Ended → 0 < length piece → new ≡ here_at w Faulty
-    → Takes (reader_at w [] last) (reader_at new [] last) piece [] events events
+    → Takes (reader_of w [] last) (reader_of new [] last) piece [] events events
 takes_ended w new last piece events stage some is = record {
   front = piece;
   split = sym (append-nil piece);
@@ -125,7 +125,7 @@ takes_ended w new last piece events stage some is = record {
         ap (λ (b : Bool). stop (cond b AtEnd (AtFault here))) (ne_eqb (suc (length (text ++ more))) 0 differs)
 
 -- a field was wrong
-pub takes_faulty : (w : Waiting) (last piece : List ℕ) (events : List FrameEvent) → w.stage ≡ Faulty → Takes (reader_at w [] last) (reader_at w [] last) piece [] events events
+pub takes_faulty : (w : Waiting) (last piece : List ℕ) (events : List FrameEvent) → w.stage ≡ Faulty → Takes (reader_of w [] last) (reader_of w [] last) piece [] events events
 takes_faulty w last piece events stage = record {
   front = piece;
   split = sym (append-nil piece);
@@ -148,7 +148,7 @@ has (b ∷ bytes) some = tt
 
 -- some of a file's bytes
 pub takes_part : (w new : Waiting) (left : ℕ) (last piece front rest : List ℕ) (bytes : List ℕ) (x y : List FrameEvent) → w.stage ≡ Content left → piece ≡ front ++ rest → 0 < length front → length front < left
-    → bytes ≡ front → y ≡ x ++ event.Bytes bytes ∷ [] → new ≡ here_at w (Content (left - length front)) → Takes (reader_at w [] last) (reader_at new [] last) piece rest x y
+    → bytes ≡ front → y ≡ x ++ event.Bytes bytes ∷ [] → new ≡ here_at w (Content (left - length front)) → Takes (reader_of w [] last) (reader_of new [] last) piece rest x y
 takes_part w new left last piece front rest bytes x y stage split some less same added is = record {
   front = front;
   split = split;
@@ -156,12 +156,12 @@ takes_part w new left last piece front rest bytes x y stage split some less same
       (moved w (here_at w (Content (left - length front))) last last front x y (event_tokens (event.Bytes bytes)) (λ here. here) (one_event x y (event.Bytes bytes) added (has bytes (subst (λ (l : List ℕ). 0 < length l) (sym same) some)))
       (record { kept_less = refl; at_stage = omega arith }) refl (λ here at. at)
       (λ here more. rest_is w (Content left) stage last here (front ++ more) ∙ bytes_part left here front more (files_from w.files last (here + w.size)) (omega arith)
-      ∙ ap (λ (l : List ℕ). telling (map FileByte l) (bytes_from (left - length front) here more (files_from w.files last (here + w.size)))) (sym same)));
+      ∙ ap (λ (l : List ℕ). telling (map FileByte l) (content_from (left - length front) here more (files_from w.files last (here + w.size)))) (sym same)));
 }
 
 -- all of them that lacked
 pub takes_all : (w new : Waiting) (left : ℕ) (last piece front rest : List ℕ) (bytes : List ℕ) (x y : List FrameEvent) → w.stage ≡ Content left → piece ≡ front ++ rest → 0 < length front → length front ≡ left
-    → bytes ≡ front → y ≡ x ++ event.Bytes bytes ∷ [] → new ≡ before_files (min (w.place + w.size) (2 ^ 64 - 1)) w.files → Takes (reader_at w [] last) (reader_at new [] last) piece rest x y
+    → bytes ≡ front → y ≡ x ++ event.Bytes bytes ∷ [] → new ≡ before_files (told_place (w.place + w.size)) w.files → Takes (reader_of w [] last) (reader_of new [] last) piece rest x y
 takes_all w new left last piece front rest bytes x y stage split some all same added is = record {
   front = front;
   split = split;

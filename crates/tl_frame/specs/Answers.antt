@@ -27,13 +27,13 @@ feed_answer true fed = Err NoMemory
 feed_answer false fed = feed_by (ending_of fed)
 
 -- the answer of a reader at a stage, as to whether a field is wrong
-abbrev pub fault_at : Stage → ℕ → Result Unit FrameError
-fault_at Faulty place = Err (BadFrame place)
-fault_at _ place = Ok tt
+abbrev pub stage_fault : Stage → ℕ → Result Unit FrameError
+stage_fault Faulty place = Err (BadFrame place)
+stage_fault _ place = Ok tt
 
 -- the same of a reader
-abbrev pub fault_by : ReaderState → Result Unit FrameError
-fault_by s = fault_at s.waiting.stage s.waiting.place
+abbrev pub reader_fault : ReaderState → Result Unit FrameError
+reader_fault s = stage_fault s.waiting.stage s.waiting.place
 
 -- the answer to bytes that end so, where a field that is cut is a fault too
 abbrev pub finish_by : ScanEnd → Result Unit FrameError
@@ -42,10 +42,10 @@ finish_by (InField place) = Err (BadFrame (told_place place))
 finish_by (AtFault place) = Err (BadFrame (told_place place))
 
 -- the answer of a reader at a stage, as to whether a frame has ended
-abbrev pub finish_at : Stage → ℕ → Result Unit FrameError
-finish_at Spent place = Err NoMemory
-finish_at Ended place = Ok tt
-finish_at _ place = Err (BadFrame place)
+abbrev pub stage_ending : Stage → ℕ → Result Unit FrameError
+stage_ending Spent place = Err NoMemory
+stage_ending Ended place = Ok tt
+stage_ending _ place = Err (BadFrame place)
 
 -- the answer of a reader to which these bytes have come, as to whether they are a frame
 abbrev pub finish_answer : Bool → List ℕ → Result Unit FrameError

@@ -49,8 +49,8 @@ mark_from from text = field_from 8 from text (λ mark rest.
     if bytes_eq mark frame_mark then telling (FrameEnd ∷ []) (nothing_from (from + 8) rest) else stop (AtFault from))
 
 -- from a file's bytes on, of which so many are still to come; a part of them is told too
-unfoldable pub bytes_from : ℕ → ℕ → List ℕ → (List ℕ → Scan) → Scan
-bytes_from left from text go =
+unfoldable pub content_from : ℕ → ℕ → List ℕ → (List ℕ → Scan) → Scan
+content_from left from text go =
     if nat_lt (length text) left then record { tokens = map FileByte text; ending = InField from }
     else telling (map FileByte (take left text)) (go (drop left text))
 
@@ -58,7 +58,7 @@ bytes_from left from text go =
 unfoldable pub size_from : List ℕ → ℕ → List ℕ → (List ℕ → ℕ → List ℕ → Scan) → Scan
 size_from path from text go = field_from 8 from text (λ size rest.
     telling (FileHead path (from_be_bytes w64 size) ∷ [])
-    (bytes_from (from_be_bytes w64 size) (from + 8) rest (go path (from + 8 + from_be_bytes w64 size))))
+    (content_from (from_be_bytes w64 size) (from + 8) rest (go path (from + 8 + from_be_bytes w64 size))))
 
 -- whether a name may come behind a path: it is a path, and greater by bytes
 unfoldable pub is_later_path : List ℕ → List ℕ → Bool

@@ -7,7 +7,7 @@ use Rattle.tl_frame.specs.declared.stage.Waiting.{Waiting}
 use Rattle.tl_frame.specs.declared.stage.Stage.{Stage}
 use Rattle.tl_frame.specs.declared.stage.Stage.TheVariants.{Magic, EntrySize, EntryText, Count, PathSize, PathText, Size, Content, Mark, Ended, Faulty, Spent}
 use Rattle.tl_frame.specs.Frames.{IsFrame}
-use Rattle.tl_frame.specs.Scan.{Token, Scan, ScanEnd, AtEnd, InField, AtFault, stop, telling, scan, tokens_of, frame_tokens, AreBytes, magic_from, entry_size_from, entry_from, count_from, files_from, path_from, size_from, bytes_from, mark_from, nothing_from}
+use Rattle.tl_frame.specs.Scan.{Token, Scan, ScanEnd, AtEnd, InField, AtFault, stop, telling, scan, tokens_of, frame_tokens, AreBytes, magic_from, entry_size_from, entry_from, count_from, files_from, path_from, size_from, content_from, mark_from, nothing_from}
 use Rattle.tl_frame.specs.Events.{AddsEvents}
 
 -- a reader: where it is, what it keeps of the field that has begun, and the path that came last
@@ -46,7 +46,7 @@ rest_by Count files size last from text = count_from from text
 rest_by PathSize files size last from text = files_from (suc files) last from text
 rest_by (PathText wanted) files size last from text = path_from wanted last from text (files_from files)
 rest_by Size files size last from text = size_from last from text (files_from files)
-rest_by (Content left) files size last from text = bytes_from left from text (files_from files last (from + size))
+rest_by (Content left) files size last from text = content_from left from text (files_from files last (from + size))
 rest_by Mark files size last from text = mark_from from text
 rest_by Ended files size last from text = nothing_from from text
 rest_by Faulty files size last from text = stop (AtFault from)
@@ -105,12 +105,12 @@ abbrev pub IsFed : ReaderState → List ℕ → Type 0
 IsFed s fed = is_spent s ≡ false → Leads s fed (tokens_of fed)
 
 -- a reader of these parts
-abbrev pub reader_at : Waiting → List ℕ → List ℕ → ReaderState
-reader_at w kept last = record { waiting = w; kept = kept; last = last }
+abbrev pub reader_of : Waiting → List ℕ → List ℕ → ReaderState
+reader_of w kept last = record { waiting = w; kept = kept; last = last }
 
 -- a reader that has no byte of the field that is waited for
 abbrev pub at_field : Waiting → List ℕ → ReaderState
-at_field w last = reader_at w [] last
+at_field w last = reader_of w [] last
 
 -- from a place on, what a front of a piece tells a reader, and where the reader is behind it
 pub record GoesOn (here : ℕ) (old new : ReaderState) (front : List ℕ) (tokens : List Token) : Type 0 where

@@ -1,4 +1,4 @@
-// Digests of bytes.
+//! Digests of bytes.
 ghost use Rattle.std.specs.Prelude.{◌≡◌, length, OnOk, IfErr};
 ghost use Rattle.sha2.specs.Sha512.{sha512};
 ghost use Rattle.hex.specs.Hex.{encode_lower};

@@ -1,4 +1,4 @@
-// Why bytes are no frame, or not those that were stated.
+//! Why bytes are no frame, or not those that were stated.
 use std::alloc::{AllocError, AllocFailed};
 use thiserror::Error;
 

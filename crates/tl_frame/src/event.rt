@@ -1,4 +1,4 @@
-// What comes out of a frame that comes in pieces.
+//! What comes out of a frame that comes in pieces.
 use tl_file::Bytes;
 use tl_path::Path;
 

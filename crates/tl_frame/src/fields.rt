@@ -1,4 +1,4 @@
-// What each whole field of a frame tells, and what comes behind it.
+//! What each whole field of a frame tells, and what comes behind it.
 ghost use Rattle.std.specs.Prelude.{◌≡◌, ◌≤◌, List, [], ℕ, length, Some, IfOk, OnErr};
 ghost use Rattle.std.specs.Int.{w16, w32, w64, from_be_bytes};
 ghost use Rattle.tl_path.specs.Path.{IsPath};
@@ -50,8 +50,8 @@ pub fn judge(
 ) -> Result<Waiting, AllocError>
     requires field { wanted_by waiting.stage ≡ Some (length field.now) }
     requires stage { IsAtStage waiting.stage last.old.items }
-    ensures moves { IfOk result (λ new. Moves (at_field waiting last.old.items) (at_field new last.new.items)
-        field.now out.old.items out.new.items) }
+    ensures moves { IfOk result (λ new. Moves (at_field waiting last.old.items)
+        (at_field new last.new.items) field.now out.old.items out.new.items) }
     ensures stage { OnErr result (IsAtStage waiting.stage last.new.items) }
     ensures same { OnErr result (out.new.items ≡ out.old.items) }
 {
@@ -70,7 +70,8 @@ pub fn judge(
 fn behind_magic(waiting: Waiting, field: &[u8]) -> Waiting
     requires stage { waiting.stage ≡ Stage.Magic }
     requires field { length field.now ≡ 8 }
-    ensures { (events : List FrameEvent) → Moves (at_field waiting []) (at_field result []) field.now events events }
+    ensures { (events : List FrameEvent) →
+        Moves (at_field waiting []) (at_field result []) field.now events events }
 {
     if field == MAGIC.as_slice() {
         waiting.behind(8, Stage::EntrySize)
@@ -86,7 +87,8 @@ fn behind_entry_size(
 ) -> Result<Waiting, AllocError>
     requires stage { waiting.stage ≡ Stage.EntrySize }
     requires field { length field.now ≡ 4 }
-    ensures moves { IfOk result (λ new. Moves (at_field waiting []) (at_field new []) field.now out.old.items out.new.items) }
+    ensures moves { IfOk result (λ new.
+        Moves (at_field waiting []) (at_field new []) field.now out.old.items out.new.items) }
     ensures same { OnErr result (out.new.items ≡ out.old.items) }
 {
     let size = number_32(field);
@@ -105,7 +107,8 @@ fn behind_entry(
     out: &mut Vec<FrameEvent>,
 ) -> Result<Waiting, AllocError>
     requires stage { waiting.stage ≡ Stage.EntryText (length field.now) }
-    ensures moves { IfOk result (λ new. Moves (at_field waiting []) (at_field new []) field.now out.old.items out.new.items) }
+    ensures moves { IfOk result (λ new.
+        Moves (at_field waiting []) (at_field new []) field.now out.old.items out.new.items) }
     ensures same { OnErr result (out.new.items ≡ out.old.items) }
 {
     let text = Vec::from_slice(*out.allocator(), field)?;
@@ -116,7 +119,8 @@ fn behind_entry(
 fn behind_count(waiting: Waiting, field: &[u8]) -> Waiting
     requires stage { waiting.stage ≡ Stage.Count }
     requires field { length field.now ≡ 4 }
-    ensures { (events : List FrameEvent) → Moves (at_field waiting []) (at_field result []) field.now events events }
+    ensures { (events : List FrameEvent) →
+        Moves (at_field waiting []) (at_field result []) field.now events events }
 {
     waiting.before_files(4, number_32(field))
 }
@@ -124,7 +128,8 @@ fn behind_count(waiting: Waiting, field: &[u8]) -> Waiting
 fn behind_path_size(waiting: Waiting, field: &[u8]) -> Waiting
     requires stage { waiting.stage ≡ Stage.PathSize }
     requires field { length field.now ≡ 2 }
-    ensures { (last : List ℕ) (events : List FrameEvent) → Moves (at_field waiting last) (at_field result last) field.now events events }
+    ensures { (last : List ℕ) (events : List FrameEvent) →
+        Moves (at_field waiting last) (at_field result last) field.now events events }
 {
     let size = number_16(field);
     if size == 0 || size > LONGEST_PATH {
@@ -137,8 +142,8 @@ fn behind_path_size(waiting: Waiting, field: &[u8]) -> Waiting
 fn behind_path(waiting: Waiting, last: &mut Vec<u8>, field: &[u8]) -> Result<Waiting, AllocError>
     requires stage { waiting.stage ≡ Stage.PathText (length field.now) }
     requires short { length field.now ≤ 1024 }
-    ensures { IfOk result (λ new. (events : List FrameEvent) → Moves (at_field waiting last.old.items) (at_field new last.new.items)
-        field.now events events) }
+    ensures { IfOk result (λ new. (events : List FrameEvent) → Moves
+        (at_field waiting last.old.items) (at_field new last.new.items) field.now events events) }
 {
     if !is_later_path(last.as_slice(), field) {
         return Ok(waiting.at(Stage::Faulty));
@@ -168,7 +173,8 @@ fn behind_size(
     requires stage { waiting.stage ≡ Stage.Size }
     requires last { IsPath last.now }
     requires field { length field.now ≡ 8 }
-    ensures moves { IfOk result (λ new. Moves (at_field waiting last.now) (at_field new last.now) field.now out.old.items out.new.items) }
+    ensures moves { IfOk result (λ new. Moves
+        (at_field waiting last.now) (at_field new last.now) field.now out.old.items out.new.items) }
     ensures same { OnErr result (out.new.items ≡ out.old.items) }
 {
     let len = number_64(field);
@@ -193,8 +199,8 @@ fn behind_mark(
 ) -> Result<Waiting, AllocError>
     requires stage { waiting.stage ≡ Stage.Mark }
     requires field { length field.now ≡ 8 }
-    ensures moves { IfOk result (λ new. (last : List ℕ) → Moves (at_field waiting last) (at_field new last)
-        field.now out.old.items out.new.items) }
+    ensures moves { IfOk result (λ new. (last : List ℕ) →
+        Moves (at_field waiting last) (at_field new last) field.now out.old.items out.new.items) }
     ensures same { OnErr result (out.new.items ≡ out.old.items) }
 {
     if field == MARK.as_slice() {

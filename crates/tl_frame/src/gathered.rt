@@ -1,4 +1,4 @@
-// The entry's text and the files that events tell.
+//! The entry's text and the files that events tell.
 ghost use Rattle.std.specs.Prelude.{◌≡◌, ◌++◌, IfOk, OnOk};
 ghost use Rattle.tl_frame.specs.Events.{event_tokens, with_bytes, with_tokens};
 
@@ -13,7 +13,8 @@ pub fn add_event(
     files: &mut Vec<FileBytes>,
     event: FrameEvent,
 ) -> Result<(), AllocError>
-    ensures { OnOk result (with_tokens (entry.old, files.old.items) (event_tokens event) ≡ (entry.new, files.new.items)) }
+    ensures { OnOk result (with_tokens (entry.old, files.old.items) (event_tokens event)
+        ≡ (entry.new, files.new.items)) }
 {
     match event {
         FrameEvent::Entry(text) => {

@@ -1,8 +1,8 @@
-// A frame that comes in pieces.
+//! A frame that comes in pieces.
 ghost use Rattle.std.specs.Prelude.{◌≡◌, ◌<◌, ◌++◌, ℕ, List, [], length, true, false, IfOk, OnOk, OnErr};
 ghost use Rattle.tl_frame.specs.Scan.{AtFault, ending_of};
 ghost use Rattle.tl_frame.specs.States.{IsFed, IsWhole, Takes, Tells, is_spent, IsInForm};
-ghost use Rattle.tl_frame.specs.Answers.{feed_answer, finish_answer, fault_by};
+ghost use Rattle.tl_frame.specs.Answers.{feed_answer, finish_answer, reader_fault};
 
 use crate::error::FrameError;
 use crate::event::FrameEvent;
@@ -21,11 +21,11 @@ pub struct FrameReader {
 }
 
 impl Model for FrameReader {
-    ghost use Rattle.tl_frame.specs.States.{ReaderState, reader_at, IsInForm};
+    ghost use Rattle.tl_frame.specs.States.{ReaderState, reader_of, IsInForm};
 
     ghost Value = { ReaderState };
 
-    ghost view = { λ r. reader_at r.waiting r.kept.items r.last.items };
+    ghost view = { λ r. reader_of r.waiting r.kept.items r.last.items };
 
     ghost invariant = { λ r. IsInForm r.waiting r.kept.items r.last.items };
 }
@@ -48,14 +48,17 @@ impl FrameReader {
         }
     }
 
-    /// Takes the next piece, and adds what it tells. `BadFrame` comes where a whole field is wrong, and then at each call;
-    /// after `NoMemory` each call answers it.
+    /// Takes the next piece, and adds what it tells. `BadFrame` comes where a field that has come whole is wrong, and then
+    /// at each call; after `NoMemory` each call answers it.
     pub fn feed(&mut self, piece: &[u8], out: &mut Vec<FrameEvent>) -> Result<(), FrameError>
         ensures fed { (fed : List ℕ) → IsFed self.old fed → IsFed self.new (fed ++ piece.now) }
-        ensures answer { (fed : List ℕ) → IsFed self.old fed → result ≡ feed_answer (is_spent self.new) (fed ++ piece.now) }
-        ensures tells { (fed : List ℕ) → IsFed self.old fed → Tells fed piece.now out.old.items out.new.items (is_spent self.new) }
-        ensures again { (fed : List ℕ) (place : ℕ) → IsFed self.old fed → is_spent self.old ≡ false →
-            ending_of fed ≡ AtFault place → ending_of (fed ++ piece.now) ≡ AtFault place }
+        ensures answer { (fed : List ℕ) → IsFed self.old fed →
+            result ≡ feed_answer (is_spent self.new) (fed ++ piece.now) }
+        ensures tells { (fed : List ℕ) → IsFed self.old fed →
+            Tells fed piece.now out.old.items out.new.items (is_spent self.new) }
+        // A field that is wrong stays the first one.
+        ensures again { (fed : List ℕ) (place : ℕ) → IsFed self.old fed → is_spent self.old ≡ false
+            → ending_of fed ≡ AtFault place → ending_of (fed ++ piece.now) ≡ AtFault place }
         ensures spent { is_spent self.old ≡ true → is_spent self.new ≡ true }
     {
         if self.is_spent() {
@@ -76,14 +79,15 @@ impl FrameReader {
 
     /// Whether what has come is a whole frame. `BadFrame` comes where it isn't, also where it is only cut. Takes no memory.
     pub fn finish(&self) -> Result<(), FrameError>
-        ensures answer { (fed : List ℕ) → IsFed self.now fed → result ≡ finish_answer (is_spent self.now) fed }
+        ensures answer { (fed : List ℕ) → IsFed self.now fed →
+            result ≡ finish_answer (is_spent self.now) fed }
         ensures whole { OnOk result ((fed : List ℕ) → IsFed self.now fed → IsWhole fed) }
     {
         self.waiting.ending()
     }
 
     fn fault(&self) -> Result<(), FrameError>
-        ensures { result ≡ fault_by self.now }
+        ensures { result ≡ reader_fault self.now }
     {
         self.waiting.fault()
     }
@@ -109,7 +113,8 @@ impl FrameReader {
     ) -> Result<&'p [u8], AllocError>
         requires some { 0 < length piece.now }
         requires live { is_spent self.old ≡ false }
-        ensures takes { IfOk result (λ rest. Takes self.old self.new piece.now rest.now out.old.items out.new.items) }
+        ensures takes { IfOk result (λ rest.
+            Takes self.old self.new piece.now rest.now out.old.items out.new.items) }
         ensures less { IfOk result (λ rest. length rest.now < length piece.now) }
         ensures same { OnErr result (out.new.items ≡ out.old.items) }
     {

@@ -1,4 +1,4 @@
-// What a reader of a frame waits for.
+//! What a reader of a frame waits for.
 use crate::error::FrameError;
 
 /// The field that a reader waits for, or why it waits for none.
@@ -64,9 +64,9 @@ impl Stage {
 }
 
 impl Waiting {
-    ghost use Rattle.std.specs.Prelude.{◌≡◌, ◌+◌, min, ◌^◌, ◌-◌};
-    ghost use Rattle.tl_frame.specs.States.{before_files};
-    ghost use Rattle.tl_frame.specs.Answers.{fault_at, finish_at};
+    ghost use Rattle.std.specs.Prelude.{◌≡◌, ◌+◌};
+    ghost use Rattle.tl_frame.specs.States.{before_files, told_place};
+    ghost use Rattle.tl_frame.specs.Answers.{stage_fault, stage_ending};
 
     /// The same place, with another stage.
     pub fn at(self, stage: Stage) -> Waiting
@@ -82,7 +82,7 @@ impl Waiting {
 
     /// The place behind so many bytes, with another stage.
     pub fn behind(self, size: u64, stage: Stage) -> Waiting
-        ensures { result ≡ record self { stage = stage; place = min (self.place + size) (2 ^ 64 - 1) } }
+        ensures { result ≡ record self { stage = stage; place = told_place (self.place + size) } }
     {
         Waiting {
             stage,
@@ -94,7 +94,7 @@ impl Waiting {
 
     /// The place behind so many bytes, before so many files.
     pub fn before_files(self, size: u64, files: u32) -> Waiting
-        ensures { result ≡ before_files (min (self.place + size) (2 ^ 64 - 1)) files }
+        ensures { result ≡ before_files (told_place (self.place + size)) files }
     {
         let place = self.place.saturating_add(size);
         if files == 0 {
@@ -116,7 +116,7 @@ impl Waiting {
 
     /// A field that is wrong.
     pub fn fault(self) -> Result<(), FrameError>
-        ensures { result ≡ fault_at self.stage self.place }
+        ensures { result ≡ stage_fault self.stage self.place }
     {
         match self.stage {
             Stage::Faulty => Err(FrameError::BadFrame { at: self.place }),
@@ -126,7 +126,7 @@ impl Waiting {
 
     /// A field that is wrong or isn't whole.
     pub fn ending(self) -> Result<(), FrameError>
-        ensures { result ≡ finish_at self.stage self.place }
+        ensures { result ≡ stage_ending self.stage self.place }
     {
         match self.stage {
             Stage::Spent => Err(FrameError::NoMemory),

@@ -1,6 +1,6 @@
-// How a reader of a frame takes the bytes of a piece.
+//! How a reader of a frame takes the bytes of a piece.
 ghost use Rattle.std.specs.Prelude.{◌≡◌, ◌<◌, ℕ, List, [], length, false, None, Some, IfOk, OnErr};
-ghost use Rattle.tl_frame.specs.States.{IsInForm, IsAtStage, Moves, Takes, ReaderState, reader_at, is_spent_stage, wanted_by};
+ghost use Rattle.tl_frame.specs.States.{IsInForm, IsAtStage, Moves, Takes, ReaderState, reader_of, is_spent_stage, wanted_by};
 
 use crate::event::FrameEvent;
 use crate::fields::judge;
@@ -20,9 +20,9 @@ pub fn gather<'p>(
     requires wanted { wanted_by waiting.stage ≡ Some wanted }
     requires form { IsInForm waiting kept.old.items last.old.items }
     requires some { 0 < length piece.now }
-    ensures takes { IfOk result (λ next. Takes (reader_at waiting kept.old.items last.old.items)
-        (reader_at next.0 kept.new.items last.new.items) piece.now next.1.now out.old.items out.new.items) }
-    ensures less { IfOk result (λ next. length next.1.now < length piece.now) }
+    ensures takes { IfOk result (λ on. Takes (reader_of waiting kept.old.items last.old.items)
+        (reader_of on.0 kept.new.items last.new.items) piece.now on.1.now out.old.items out.new.items) }
+    ensures less { IfOk result (λ on. length on.1.now < length piece.now) }
     ensures form { OnErr result (IsInForm waiting kept.new.items last.new.items) }
     ensures same { OnErr result (out.new.items ≡ out.old.items) }
 {
@@ -51,9 +51,9 @@ pub fn pass<'p>(
     requires live { is_spent_stage waiting.stage ≡ false }
     requires stage { IsAtStage waiting.stage [] }
     requires some { 0 < length piece.now }
-    ensures takes { IfOk result (λ next. (last : List ℕ) →
-        Takes (reader_at waiting [] last) (reader_at next.0 [] last) piece.now next.1.now out.old.items out.new.items) }
-    ensures less { IfOk result (λ next. length next.1.now < length piece.now) }
+    ensures takes { IfOk result (λ on. (last : List ℕ) → Takes (reader_of waiting [] last)
+        (reader_of on.0 [] last) piece.now on.1.now out.old.items out.new.items) }
+    ensures less { IfOk result (λ on. length on.1.now < length piece.now) }
     ensures same { OnErr result (out.new.items ≡ out.old.items) }
 {
     match waiting.stage {
@@ -73,9 +73,9 @@ fn content<'p>(
     requires stage { waiting.stage ≡ Stage.Content left }
     requires left { 0 < left }
     requires some { 0 < length piece.now }
-    ensures takes { IfOk result (λ next. (last : List ℕ) →
-        Takes (reader_at waiting [] last) (reader_at next.0 [] last) piece.now next.1.now out.old.items out.new.items) }
-    ensures less { IfOk result (λ next. length next.1.now < length piece.now) }
+    ensures takes { IfOk result (λ on. (last : List ℕ) → Takes (reader_of waiting [] last)
+        (reader_of on.0 [] last) piece.now on.1.now out.old.items out.new.items) }
+    ensures less { IfOk result (λ on. length on.1.now < length piece.now) }
     ensures same { OnErr result (out.new.items ≡ out.old.items) }
 {
     let size = left.min(piece.len() as u64);

@@ -1,12 +1,12 @@
-// A frame in one list of bytes.
+//! A frame in one list of bytes.
 ghost use Rattle.std.specs.Prelude.{◌≡◌, ◌<◌, ◌^◌, ◌++◌, ℕ, true, List, [], length, None, IfOk, OnOk, IfErr, MatchResult};
 ghost use Rattle.std.specs.List.{flat_map};
 ghost use Rattle.tl_path.specs.Path.{IsPath};
 ghost use Rattle.tl_file.specs.declared.file.FileBytes.{FileBytes};
 ghost use Rattle.tl_frame.specs.declared.error.FrameError.TheVariants.{NoMemory};
-ghost use Rattle.tl_frame.specs.Frames.{IsFrame, FitsFrame, framed_file, paths_rise};
+ghost use Rattle.tl_frame.specs.Frames.{IsFrame, FitsFrame, frame, framed_file, paths_rise};
 ghost use Rattle.tl_frame.specs.Scan.{frame_fault, tokens_of};
-ghost use Rattle.tl_frame.specs.States.{IsWhole};
+ghost use Rattle.tl_frame.specs.States.{IsWhole, told_place};
 ghost use Rattle.tl_frame.specs.Events.{event_tokens, with_tokens};
 ghost use Rattle.tl_frame.specs.Answers.{IsFrameErrorOf};
 
@@ -33,10 +33,11 @@ pub fn read_frame(alloc: Global, bytes: &[u8]) -> Result<Frame, FrameError>
     ensures frame { IfOk result (λ read. IsFrame bytes.now read.entry read.files) }
     // A frame is that of no other text and files, and it is read.
     ensures only { (entry : List ℕ) (files : List FileBytes) → IsFrame bytes.now entry files →
-        MatchResult result (λ read. (read.entry ≡ entry) × (read.files ≡ files)) (λ error. error ≡ NoMemory) }
+        MatchResult result (λ read. (read.entry ≡ entry) × (read.files ≡ files)) (λ e. e ≡ NoMemory) }
     ensures fault { MatchResult result (λ _. frame_fault bytes.now ≡ None) (IsFrameErrorOf bytes.now) }
     // No frame begins another one.
-    ensures alone { OnOk result ((more entry : List ℕ) (files : List FileBytes) → IsFrame (bytes.now ++ more) entry files → more ≡ []) }
+    ensures alone { OnOk result ((more entry : List ℕ) (files : List FileBytes) →
+        IsFrame (bytes.now ++ more) entry files → more ≡ []) }
 {
     let events = events_of(alloc, bytes)?;
     Ok(frame_of(alloc, events)?)
@@ -44,7 +45,7 @@ pub fn read_frame(alloc: Global, bytes: &[u8]) -> Result<Frame, FrameError>
 
 // What the bytes of a frame tell.
 fn events_of(alloc: Global, bytes: &[u8]) -> Result<Vec<FrameEvent>, FrameError>
-    ensures told { IfOk result (λ events. flat_map event_tokens events.items ≡ tokens_of bytes.now) }
+    ensures told { IfOk result (λ given. flat_map event_tokens given.items ≡ tokens_of bytes.now) }
     ensures whole { OnOk result (IsWhole bytes.now) }
     ensures fault { IfErr result (IsFrameErrorOf bytes.now) }
 {
@@ -57,7 +58,8 @@ fn events_of(alloc: Global, bytes: &[u8]) -> Result<Vec<FrameEvent>, FrameError>
 
 // The frame that events tell.
 fn frame_of(alloc: Global, events: Vec<FrameEvent>) -> Result<Frame, AllocError>
-    ensures { IfOk result (λ frame. with_tokens ([], []) (flat_map event_tokens events.items) ≡ (frame.entry, frame.files)) }
+    ensures { IfOk result (λ frame.
+        with_tokens ([], []) (flat_map event_tokens events.items) ≡ (frame.entry, frame.files)) }
 {
     let mut entry = Bytes::new(Vec::new(alloc));
     let mut files = Vec::new(alloc);
@@ -104,7 +106,9 @@ fn add_file(out: &mut Vec<u8>, file: &FileBytes) -> Result<(), AllocError>
 }
 
 // The number of a frame's bytes, for which room is made at once.
-fn frame_size(entry: &[u8], files: &[FileBytes]) -> usize {
+fn frame_size(entry: &[u8], files: &[FileBytes]) -> usize
+    ensures { result ≡ told_place (length (frame entry.now files.now)) }
+{
     let mut size = entry.len().saturating_add(24);
     for file in files {
         size = size

@@ -1,5 +1,5 @@
 use Rattle.std.proofs.Common.{◌<◌, ◌+◌, ◌∙◌, List, ℕ, length, arith, sym, subst}
-use Rattle.tl_frame.specs.States.{Moves, reader_at}
+use Rattle.tl_frame.specs.States.{Moves, reader_of}
 use Rattle.tl_frame.proofs.StateLaws.{moves_kept, moves_behind}
 use Rattle.tl_frame.proofs.step.gather.Goals as goal
 
@@ -16,5 +16,5 @@ returns-clause-takes c =
     record {
       front = front;
       split = c.split_at.ensures.by_index.0;
-      moves = subst (λ (kept : List ℕ). Moves (reader_at c.args.waiting c.args.kept.now.items c.args.last.now.items) (reader_at c.in_ok-next.field-0 kept c.judge-next.new.last.items) front c.args.out.now.items c.judge-next.new.out.items) (sym c.clear.ensures.items) moves;
+      moves = subst (λ (kept : List ℕ). Moves (reader_of c.args.waiting c.args.kept.now.items c.args.last.now.items) (reader_of c.in_ok-next.field-0 kept c.judge-next.new.last.items) front c.args.out.now.items c.judge-next.new.out.items) (sym c.clear.ensures.items) moves;
     }

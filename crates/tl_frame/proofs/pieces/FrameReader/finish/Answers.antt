@@ -1,7 +1,7 @@
 use Rattle.std.proofs.Common.{◌≡◌, Result, Ok, Err, refl, sym, ◌∙◌, subst}
 use Rattle.std.specs.Result.{OnOk}
 use Rattle.tl_frame.specs.declared.error.FrameError.{FrameError}
-use Rattle.tl_frame.specs.States.{ReaderState, IsFed, reader_at, is_spent}
+use Rattle.tl_frame.specs.States.{ReaderState, IsFed, reader_of, is_spent}
 use Rattle.tl_frame.specs.Answers.{finish_answer}
 use Rattle.tl_frame.proofs.FeedLaws.{finish_led, ends_at}
 use Rattle.tl_frame.proofs.ReadLaws.{frame_read}
@@ -10,7 +10,7 @@ use Rattle.tl_frame.proofs.pieces.FrameReader.finish.Goals as goal
 pub returns-clause-answer : goal.returns-clause-answer
 returns-clause-answer c fed is =
     let s = c.self.inside in
-    let at : ReaderState = reader_at s.waiting s.kept.items s.last.items in
+    let at : ReaderState = reader_of s.waiting s.kept.items s.last.items in
     let led : IsFed at fed → c.ending.result ≡ finish_answer (is_spent at) fed = λ is. c.ending.ensures ∙ finish_led at fed c.self.invariant is in
     subst (λ (r : ReaderState). IsFed r fed → c.ending.result ≡ finish_answer (is_spent r) fed) c.self.view_is led is
 
