@@ -7,7 +7,7 @@ use std::rt::Files;
 use std::thread::Threads;
 use tl_real::{FolderHost, FolderShelf, StdSource};
 use tl_tool::{Ending, Regexps, texlive};
-use tl_words::{Command, WordsError, read_words};
+use tl_words::{Command, Repository, WordsError, read_words};
 
 // The folder that is meant where none is named.
 const HERE: &[u8] = b".";
@@ -36,7 +36,7 @@ where
 
 fn named_folders(alloc: Global, words: &[Vec<u8>]) -> Result<Folders, AllocError> {
     match read_words(alloc, words) {
-        Ok(command) => command_folders(alloc, command),
+        Ok(command) => command_folders(alloc, &command),
         Err(WordsError::BadWords { .. }) => Ok(Folders {
             root: Vec::from_slice(alloc, HERE)?,
             repositories: Vec::new(alloc),
@@ -45,15 +45,22 @@ fn named_folders(alloc: Global, words: &[Vec<u8>]) -> Result<Folders, AllocError
     }
 }
 
-fn command_folders(alloc: Global, command: Command) -> Result<Folders, AllocError> {
-    let mut repositories = Vec::new(alloc);
-    for repository in command.repositories.as_slice() {
-        repositories.push(folder_of(alloc, repository.folder.as_slice())?)?;
-    }
+fn command_folders(alloc: Global, command: &Command) -> Result<Folders, AllocError> {
     Ok(Folders {
         root: Vec::from_slice(alloc, command.root.as_slice())?,
-        repositories,
+        repositories: repository_folders(alloc, command.repositories.as_slice())?,
     })
+}
+
+fn repository_folders(
+    alloc: Global,
+    repositories: &[Repository],
+) -> Result<Vec<Vec<u8>>, AllocError> {
+    let mut folders = Vec::new(alloc);
+    for repository in repositories {
+        folders.push(folder_of(alloc, repository.folder.as_slice())?)?;
+    }
+    Ok(folders)
 }
 
 // A repository of no bytes is the folder that the program runs in.
