@@ -6,5 +6,4 @@ pub mod LineLemmas
 pub mod AgainLemmas
 pub mod SpelledLemmas
 pub mod SettingLemmas
-pub mod KeptLemmas
 pub mod CanonicalLemmas

@@ -2,5 +2,4 @@ pub mod Text
 pub mod Reading
 pub mod Entries
 pub mod Options
-pub mod Kept
 pub mod Canonical

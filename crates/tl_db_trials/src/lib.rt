@@ -12,8 +12,6 @@ mod forms;
 #[cfg(test)]
 mod good;
 #[cfg(test)]
-mod kept;
-#[cfg(test)]
 mod lines;
 #[cfg(test)]
 mod long;
