@@ -8,3 +8,4 @@ mod Live
 mod Pieces
 mod Resumed
 mod Staged
+pub mod Stagings

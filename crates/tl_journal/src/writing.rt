@@ -66,6 +66,13 @@ impl<H: Host> Staging<H> {
 }
 
 impl<H: Host> Writing<H> {
+    /// How many bytes are still to come.
+    pub fn left(&self) -> u64
+        ensures { result ≡ self.now.left }
+    {
+        self.left
+    }
+
     /// Adds the next bytes, which are no more than are still to come. `HostFault` comes only where the host's faults rose.
     pub fn piece(self, bytes: &[u8]) -> Result<Writing<H>, Lost<H, HostFault>>
         requires { length bytes.now ≤ self.left }

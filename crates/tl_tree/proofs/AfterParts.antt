@@ -3,7 +3,7 @@ use Rattle.std.proofs.Common.{◌≡◌, ◌<◌, ◌+◌, ℕ, false, List, [],
 use Rattle.std.proofs.lemmas.List.{take_more}
 use Rattle.tl_entry.specs.declared.object.Object.{Object}
 use Rattle.tl_tree.specs.declared.change.Part.{Part}
-use Rattle.tl_tree.specs.declared.change.Part.TheVariants.{Put, Remove, Entry, Write, Erase}
+use Rattle.tl_tree.specs.declared.change.Part.TheVariants.{Put, Remove, Entry, Write, Erase, Stream, Later}
 use Rattle.tl_tree.specs.Changes.{entries_by, entries_after, has_entries}
 
 after-push : (parts : List Part) (part : Part) (db : List Object) → entries_after (parts ++ part ∷ []) db ≡ entries_by part (entries_after parts db)
@@ -25,3 +25,5 @@ after_none (Remove name ∷ parts) db none = absurd (cc)
 after_none (Entry entry ∷ parts) db none = absurd (cc)
 after_none (Write path bytes ∷ parts) db none = after_none parts db none
 after_none (Erase path ∷ parts) db none = after_none parts db none
+after_none (Stream entry ∷ parts) db none = absurd (cc)
+after_none (Later paths ∷ parts) db none = after_none parts db none

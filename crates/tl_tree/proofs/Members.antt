@@ -1,8 +1,9 @@
 -- Names among others.
 use Rattle.std.proofs.Common.{◌≡◌, ◌<◌, ℕ, zero, suc, Bool, true, false, ◌||◌, List, [], ◌∷◌, ◌++◌, length, get_or, refl, sym, ◌∙◌, ap, subst, arith}
 use Rattle.std.specs.List.{list_any}
+use Rattle.std.specs.FinSet as set
 use Rattle.std.proofs.lemmas.Bool.{true≢false}
-use Rattle.tl_model.specs.Volume.{Name, same_name, same_name-is, same_name-refl}
+use Rattle.tl_model.specs.Volume.{Name, Names, same_name, same_name-is, same_name-refl}
 use Rattle.tl_tree.specs.declared.arrange.Coming.{Coming}
 use Rattle.tl_tree.specs.Staged.{has_name, has_file, files_of}
 
@@ -58,6 +59,14 @@ left_there path name names there = by (same_name name path) (λ e. subst (λ (n 
 pub left_coming : (path name : Name) (names : List Name) (files : List Coming) → has_file path (files_of files) ≡ true → has_file name (files_of files) ≡ false
     → has_name name names ≡ (has_name name names || same_name name path)
 left_coming path name names files comes none = by (same_name name path) (λ e. absurd (true≢false (sym (subst (λ (n : Name). has_file n (files_of files) ≡ true) (sym (same_name-is name path e)) comes) ∙ none)))
+  where
+    by : (b : Bool) → (b ≡ true → has_name name names ≡ true) → has_name name names ≡ (has_name name names || b)
+    by true is = is refl ∙ ap (λ a. a || true) (sym (is refl))
+    by false is = or_none (has_name name names)
+
+-- nor does one that is waited for
+pub left_waiting : (path name : Name) (names : List Name) (waiting : Names) → set.contains waiting path ≡ true → set.contains waiting name ≡ false → has_name name names ≡ (has_name name names || same_name name path)
+left_waiting path name names waiting there none = by (same_name name path) (λ e. absurd (true≢false (sym (subst (λ (n : Name). set.contains waiting n ≡ true) (sym (same_name-is name path e)) there) ∙ none)))
   where
     by : (b : Bool) → (b ≡ true → has_name name names ≡ true) → has_name name names ≡ (has_name name names || b)
     by true is = is refl ∙ ap (λ a. a || true) (sym (is refl))

@@ -1,55 +1,71 @@
--- The work of a step makes of a tree what its change says.
-use Rattle.std.proofs.Common.{◌≡◌, ◌≢◌, ℕ, Bool, true, false, List, [], ◌∷◌, ◌++◌, refl, sym, ◌∙◌, ap, subst}
-use Rattle.std.specs.Prelude.{AllPairs, if◌then◌else◌}
-use Rattle.std.specs.List.{AllByRecursion}
+-- The records of a step make of a tree what its change says, with the files that were given for it.
+use Rattle.std.proofs.Common.{◌≡◌, ◌⊎◌, ℕ, true, false, List, [], ◌++◌, Option, Some, sym, ◌∙◌, ap, subst, inl, inr}
+use Rattle.std.specs.Prelude.{if◌then◌else◌}
+use Rattle.std.specs.Option.{option_or, unwrap_or}
 use Rattle.std.specs.List.Sorted.{IsPermutation}
-use Rattle.std.proofs.lemmas.List.Elements.{All-from_recursion, recursion_from_All}
-use Rattle.std.proofs.lemmas.List.Sorted.{All-permutation}
-use Rattle.tl_model.specs.Volume.{Name, Volume}
-use Rattle.tl_journal_text.specs.Records.{is_outside, after}
+use Rattle.std.specs.FinSet as set
+use Rattle.std.specs.Cmp.Lexicographic.{nat_list_cmp_total}
+use Rattle.std.proofs.lemmas.Bool.{cases_Bool}
+use Rattle.tl_model.specs.Volume.{Name, Volume, at, same_volume}
+use Rattle.tl_journal_text.specs.Records.{after}
 use Rattle.tl_entry.specs.declared.object.Object.{Object}
 use Rattle.tl_tree.specs.declared.change.Part.{Part}
-use Rattle.tl_tree.specs.Changes.{removed_all, written_all, names_of, leaving, coming, written, made, changed, entries_after, has_entries, IsChange}
-use Rattle.tl_tree.specs.Staged.{AreOutside, FilesOutside, LeavesOut, records_for}
-use Rattle.tl_tree.proofs.Trees.{File, arranged, after-records}
+use Rattle.tl_tree.specs.Staged.{has_name, has_file, LeavesOut, writes_of, records_for}
+use Rattle.tl_tree.specs.Changes.{later, leaving, coming, names_of, made, written, has_entries, removed_all, written_all, changed, entries_after}
+use Rattle.tl_tree.specs.Conditions.{IsChange}
+use Rattle.tl_tree.specs.Filled.{bytes_under, filled}
+use Rattle.tl_tree.proofs.Distinct.{AreOnce}
+use Rattle.tl_tree.proofs.Lookups.{File, has_name-names_of, under-append, under-none, under-some}
+use Rattle.tl_tree.proofs.Trees.{at-written, at-arranged, after-records_more}
+use Rattle.tl_tree.proofs.Spoken.{written_once}
+use Rattle.tl_tree.proofs.Fillings.{leaving-filled, entries-filled, has_entries-filled, change-filled, under-other, under-late}
 
-files_outside : (files : List File) → AllByRecursion (λ (name : Name). is_outside name ≡ true) (names_of files) → FilesOutside files
-files_outside [] all = tt
-files_outside (file ∷ files) all = (all.0, files_outside files all.1)
+module _ (db : List Object) (parts : List Part) (label : List ℕ) (is : IsChange db parts label) (files writes : List File) (removes : List Name)
+    (moved : IsPermutation (written parts (entries_after parts db)) writes) (left : LeavesOut writes (set.from_list (later parts)) (leaving db parts) removes)
+    (once : AreOnce (names_of files)) (came : (name : Name) → has_file name files ≡ has_name name (later parts)) (tree : Volume) where
+  abbrev next : List Object
+  next = entries_after parts db
 
-all_append : (xs ys : List File) → FilesOutside xs → FilesOutside ys → FilesOutside (xs ++ ys)
-all_append [] ys far near = near
-all_append (x ∷ xs) ys far near = (far.0, all_append xs ys far.1 near)
+  abbrev rest : Volume
+  rest = removed_all (leaving db parts) tree
 
-made_outside : (db : List Object) → FilesOutside (made db)
-made_outside db = (refl, (refl, (refl, (refl, (refl, (refl, tt))))))
+  abbrev made_now : List File
+  made_now = if has_entries parts then made next else []
 
-made_if_outside : (b : Bool) (db : List Object) → FilesOutside (if b then made db else [])
-made_if_outside true db = made_outside db
-made_if_outside false db = tt
+  -- the change with the files, over what is left of the tree
+  filled_is : changed db (filled files parts) tree ≡ written_all (coming (filled files parts) ++ made_now) rest
+  filled_is =
+      ap (λ (os : List Object). written_all (coming (filled files parts) ++ (if has_entries (filled files parts) then made os else [])) (removed_all (leaving db (filled files parts)) tree)) (entries-filled files parts db)
+      ∙ ap (λ b. written_all (coming (filled files parts) ++ (if b then made next else [])) (removed_all (leaving db (filled files parts)) tree)) (has_entries-filled files parts)
+      ∙ ap (λ (names : List Name). written_all (coming (filled files parts) ++ made_now) (removed_all names tree)) (leaving-filled files db parts)
 
-module _ (db next : List Object) (parts : List Part) (label : List ℕ) (is : IsChange db parts label) (names : List Name) (made_files sorted : List File)
-    (leaves : names ≡ leaving db parts) (entries : next ≡ entries_after parts db) (makes : made_files ≡ (if has_entries parts then made next else []))
-    (moved : IsPermutation (coming parts ++ made_files) sorted) where
-  all_files : coming parts ++ made_files ≡ written parts (entries_after parts db)
-  all_files = ap (λ (fs : List File). coming parts ++ fs) (makes ∙ ap (λ (o : List Object). if has_entries parts then made o else []) entries)
+  filled_once : AreOnce (names_of (coming (filled files parts) ++ made_now))
+  filled_once = subst (λ b. AreOnce (names_of (coming (filled files parts) ++ (if b then made next else [])))) (has_entries-filled files parts) (written_once db (filled files parts) label (change-filled files db parts label is) next)
 
-  -- the names that leave may be removed
-  pub names_out : AreOutside names
-  names_out = subst (λ (ns : List Name). AreOutside ns) (sym leaves) is.leaves
+  -- what it holds
+  at-filled : (name : Name) → at (changed db (filled files parts) tree) name ≡ option_or (option_or (bytes_under name (coming (filled files parts))) (bytes_under name made_now)) (at rest name)
+  at-filled name =
+      ap (λ (v : Volume). at v name) filled_is
+      ∙ at-written (coming (filled files parts) ++ made_now) rest name filled_once
+      ∙ ap (λ (o : Option (List ℕ)). option_or o (at rest name)) (under-append (coming (filled files parts)) made_now name)
 
-  -- and the files that come may be written
-  pub files_out : FilesOutside sorted
-  files_out =
-      let P : File → Type 0 = λ file. is_outside file.0 ≡ true in
-      let all : FilesOutside (coming parts ++ made_files) = subst (λ (fs : List File). FilesOutside (coming parts ++ fs)) (sym makes) (all_append (coming parts) (if has_entries parts then made next else []) (files_outside (coming parts) is.comes) (made_if_outside (has_entries parts) next)) in
-      recursion_from_All P sorted (All-permutation P (coming parts ++ made_files) sorted moved (All-from_recursion P (coming parts ++ made_files) all))
+  -- and what the records make
+  abbrev staged_tree : Volume
+  staged_tree = written_all writes (removed_all removes tree)
 
-  -- the records make the tree of the change
-  pub whole : (kept : List Name) (tree : Volume) → LeavesOut sorted names kept → after (records_for kept sorted) tree ≡ changed db parts tree
-  whole kept tree left =
-      let apart : AllPairs (λ a b. a ≢ b) (names_of (coming parts ++ made_files)) = subst (λ (fs : List File). AllPairs (λ a b. a ≢ b) (names_of fs)) (sym all_files) is.apart in
-      after-records kept sorted tree
-      ∙ arranged (coming parts ++ made_files) sorted names kept tree apart moved left
-      ∙ ap (λ (fs : List File). written_all fs (removed_all names tree)) all_files
-      ∙ ap (λ (ns : List Name). written_all (written parts (entries_after parts db)) (removed_all ns tree)) leaves
+  pub whole : after (records_for removes writes ++ writes_of files) tree ≡ changed db (filled files parts) tree
+  whole = after-records_more removes writes files tree ∙ same_volume _ _ (λ name. at-written files staged_tree name once ∙ by name (cases_Bool (has_name name (later parts))) ∙ sym (at-filled name))
+    where
+      by : (name : Name) → (has_name name (later parts) ≡ true) ⊎ (has_name name (later parts) ≡ false)
+          → option_or (bytes_under name files) (at staged_tree name) ≡ option_or (option_or (bytes_under name (coming (filled files parts))) (bytes_under name made_now)) (at rest name)
+      by name (inl late) =
+          let one = under-some files name (has_name-names_of name files ∙ came name ∙ late) in
+          ap (λ (o : Option (List ℕ)). option_or o (at staged_tree name)) one.1
+          ∙ sym (ap (λ (o : Option (List ℕ)). option_or (option_or o (bytes_under name made_now)) (at rest name)) (under-late files parts name is.paths late ∙ ap (λ (o : Option (List ℕ)). Some (unwrap_or o [])) one.1))
+      by name (inr other) =
+          let free : set.contains (set.from_list (later parts)) name ≡ false = set.contains-from_list nat_list_cmp_total (later parts) name ∙ other in
+          ap (λ (o : Option (List ℕ)). option_or o (at staged_tree name)) (under-none files name (has_name-names_of name files ∙ came name ∙ other))
+          ∙ at-arranged (written parts next) writes (set.from_list (later parts)) (leaving db parts) removes tree name (written_once db parts label is next) moved left free
+          ∙ at-written (written parts next) rest name (written_once db parts label is next)
+          ∙ ap (λ (o : Option (List ℕ)). option_or o (at rest name)) (under-append (coming parts) made_now name)
+          ∙ sym (ap (λ (o : Option (List ℕ)). option_or (option_or o (bytes_under name made_now)) (at rest name)) (under-other files parts name other))

@@ -1,5 +1,5 @@
 -- What the answers of a tree's calls say.
-use Rattle.std.specs.Prelude.{◌≡◌, ◌≤◌, ◌<◌, ◌+◌, ℕ, true, List, [], ◌∷◌, length, Err}
+use Rattle.std.specs.Prelude.{◌≡◌, ◌≤◌, ◌<◌, ℕ, true, List, [], ◌∷◌, length, Err}
 use Rattle.tl_model.specs.Seen.{Seen}
 use Rattle.tl_model.specs.Trace.{Event, Step, Trace, Cut}
 use Rattle.tl_entry.specs.declared.object.Object.{Object}
@@ -10,6 +10,7 @@ use Rattle.tl_kind.specs.declared.quantity.What.{What}
 use Rattle.tl_journal_text.specs.Stand.{stand, tree_of}
 use Rattle.tl_tree.specs.Planted.{Planted}
 use Rattle.tl_tree.specs.Changes.{entries_after, has_entries, changed}
+use Rattle.tl_tree.specs.Packages.{ReplacesWhole}
 use Rattle.tl_tree.specs.declared.change.Part.{Part}
 use Rattle.tl_tree.specs.declared.error.TreeError.{TreeError}
 use Rattle.tl_tree.specs.declared.error.TreeError.TheVariants as loading
@@ -39,43 +40,46 @@ IsTooLarge db other limit = ⊥
 abbrev pub step_of : Planted → List Part → List ℕ → Event
 step_of tree parts label = Step (changed tree.db parts (tree_of tree.seen.present.held)) label
 
--- what was seen of a tree's host up to a step that wasn't made or was cut off
+-- a step was made: the tree is the changed one, what was seen is the run of this step, and packages were replaced whole
+pub record IsStepped (old : Planted) (parts : List Part) (label : List ℕ) (new : Planted) : Type 0 where
+  pub tree : tree_of new.seen.present.held ≡ changed old.db parts (tree_of old.seen.present.held)
+  pub trace : Trace stand old.seen new.seen (tree_of old.seen.present.held) (step_of old parts label ∷ [])
+  pub packages : ReplacesWhole old.db parts (tree_of old.seen.present.held) new.db (tree_of new.seen.present.held)
+
+-- what was seen of a tree's host up to a step that was cut off by a fault, or that wasn't made for another cause and synced nothing
 abbrev pub IsLostStep : Planted → List Part → List ℕ → StepError → Seen → Type 0
 IsLostStep tree parts label stepping.HostFault last =
     Cut stand tree.seen last (tree_of tree.seen.present.held) (step_of tree parts label ∷ [])
-IsLostStep tree parts label stepping.NoMemory last = Trace stand tree.seen last (tree_of tree.seen.present.held) []
-IsLostStep tree parts label (stepping.TooLarge what limit) last = Trace stand tree.seen last (tree_of tree.seen.present.held) []
-
--- the cause of a step that passes a limit of the database that it would leave
-abbrev pub IsStepError : Planted → List Part → StepError → Type 0
-IsStepError tree parts stepping.HostFault = Unit {0}
-IsStepError tree parts stepping.NoMemory = Unit {0}
-IsStepError tree parts (stepping.TooLarge what limit) = IsTooLarge (entries_after parts tree.db) what limit
-
--- the cause of a refusal before any call of the host, where the database would have these entries
-abbrev pub IsPlanError : List Object → StepError → Type 0
-IsPlanError db stepping.HostFault = ⊥
-IsPlanError db stepping.NoMemory = Unit {0}
-IsPlanError db (stepping.TooLarge what limit) = IsTooLarge db what limit
-
--- an answer names a limit
-abbrev pub HasLimit : StepError → Type 0
-HasLimit stepping.HostFault = ⊥
-HasLimit stepping.NoMemory = ⊥
-HasLimit (stepping.TooLarge what limit) = Unit {0}
+IsLostStep tree parts label stepping.NoMemory last =
+    Trace stand tree.seen last (tree_of tree.seen.present.held) [] × (last.syncs ≡ tree.seen.syncs)
+IsLostStep tree parts label (stepping.TooLarge what limit) last =
+    Trace stand tree.seen last (tree_of tree.seen.present.held) [] × (last.syncs ≡ tree.seen.syncs)
 
 -- where a change speaks of an entry, the database that it leaves is within its limits
 abbrev pub IsAllowed : Planted → List Part → Type 0
 IsAllowed tree parts = has_entries parts ≡ true → IsWithin (entries_after parts tree.db)
 
--- a step that was cut off by a fault had begun: its database was within its limits
-abbrev pub HasBegun : Planted → List Part → StepError → Type 0
-HasBegun tree parts stepping.HostFault = IsAllowed tree parts
-HasBegun tree parts stepping.NoMemory = Unit {0}
-HasBegun tree parts (stepping.TooLarge what limit) = Unit {0}
+-- the cause of a step that isn't made: it speaks of an entry and passes a limit of the database that it would leave; one that was cut
+-- off by a fault is within the limits
+abbrev pub IsStepError : Planted → List Part → StepError → Type 0
+IsStepError tree parts stepping.HostFault = IsAllowed tree parts
+IsStepError tree parts stepping.NoMemory = Unit {0}
+IsStepError tree parts (stepping.TooLarge what limit) = (has_entries parts ≡ true) × IsTooLarge (entries_after parts tree.db) what limit
 
--- a step that was cut off by a fault synced twice at most, and one that wasn't made for another cause synced nothing
-abbrev pub IsUnsynced : StepError → ℕ → ℕ → Type 0
-IsUnsynced stepping.HostFault before now = now ≤ before + 2
-IsUnsynced stepping.NoMemory before now = now ≡ before
-IsUnsynced (stepping.TooLarge what limit) before now = now ≡ before
+-- the cause of files that aren't made from a database of these entries
+abbrev pub IsMadeError : List Object → StepError → Type 0
+IsMadeError db stepping.HostFault = ⊥
+IsMadeError db stepping.NoMemory = Unit {0}
+IsMadeError db (stepping.TooLarge what limit) = IsTooLarge db what limit
+
+-- the cause of a step that isn't planned
+abbrev pub IsPlanError : List Object → List Part → StepError → Type 0
+IsPlanError db parts stepping.HostFault = ⊥
+IsPlanError db parts stepping.NoMemory = Unit {0}
+IsPlanError db parts (stepping.TooLarge what limit) = (has_entries parts ≡ true) × IsTooLarge (entries_after parts db) what limit
+
+-- a step that isn't staged lacks memory, or the host failed
+abbrev pub IsStageError : StepError → Type 0
+IsStageError stepping.HostFault = Unit {0}
+IsStageError stepping.NoMemory = Unit {0}
+IsStageError (stepping.TooLarge what limit) = ⊥

@@ -1,9 +1,14 @@
 pub mod Answers
 pub mod Changes
-pub mod Held
+pub mod Conditions
+pub mod Contents
+pub mod Filled
 pub mod Names
 pub mod Nexts
+pub mod Opened
 pub mod Owners
+pub mod Packages
 pub mod Planted
 pub mod Staged
 pub mod Traces
+pub mod Under

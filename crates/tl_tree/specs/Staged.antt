@@ -1,13 +1,14 @@
 -- What is staged of a change.
 use Rattle.std.specs.Prelude.{◌≡◌, ◌≤◌, ◌+◌, ℕ, Bool, true, false, List, ◌++◌, map, take, Some}
 use Rattle.std.specs.List.{list_any, AllByRecursion}
-use Rattle.tl_model.specs.Volume.{Name, Volume, same_name}
+use Rattle.std.specs.List.Sorted.{IsPermutation}
+use Rattle.std.specs.FinSet as set
+use Rattle.tl_model.specs.Volume.{Name, Names, Volume, same_name}
 use Rattle.tl_model.specs.Seen.{Seen, Since}
 use Rattle.tl_journal_text.specs.Records.{Record, Remove, Write, is_outside, after}
-use Rattle.tl_journal_text.specs.Stand.{stand, tree_of, Stays, IsBeforeOrAfter, SaysFront}
+use Rattle.tl_journal_text.specs.Stand.{stand, tree_of, IsBeforeOrAfter, SaysFront}
 use Rattle.tl_journal.specs.States.{staged}
 use Rattle.tl_tree.specs.declared.arrange.Coming.{Coming}
-use Rattle.tl_tree.specs.declared.arrange.Work.{Work}
 
 -- whether a name is one of some
 abbrev pub has_name : Name → List Name → Bool
@@ -25,9 +26,10 @@ AreOutside names = AllByRecursion (λ (name : Name). is_outside name ≡ true) n
 abbrev pub FilesOutside : List (Name × List ℕ) → Type 0
 FilesOutside files = AllByRecursion (λ (file : Name × List ℕ). is_outside file.0 ≡ true) files
 
--- of some names, only those of files that come are left out
-abbrev pub LeavesOut : List (Name × List ℕ) → List Name → List Name → Type 0
-LeavesOut files names kept = (name : Name) → has_file name files ≡ false → has_name name kept ≡ has_name name names
+-- of some names, only those of files that come, or that are waited for, are left out
+abbrev pub LeavesOut : List (Name × List ℕ) → Names → List Name → List Name → Type 0
+LeavesOut files waiting names kept =
+    (name : Name) → has_file name files ≡ false → set.contains waiting name ≡ false → has_name name kept ≡ has_name name names
 
 -- a file that is borrowed: its path and bytes
 abbrev pub file_of : Coming → Name × List ℕ
@@ -53,35 +55,19 @@ writes_of files = map write_of files
 abbrev pub records_for : List Name → List (Name × List ℕ) → List Record
 records_for names files = removes_of names ++ writes_of files
 
--- nothing stands for another tree than before, nothing is said and nothing is synced
-pub record Waits (old new : Seen) : Type 0 where
-  pub stays : (first : Seen) → Stays first old → Stays first new
-  pub syncs : new.syncs ≡ old.syncs
+-- the tree that staged records make
+abbrev pub next_tree : Seen → Volume
+next_tree staging = after (staged staging) (tree_of staging.present.held)
 
--- these records more are staged, and nothing else has changed
-pub record Adds (records : List Record) (old new : Seen) : Type 0 where
-  pub added : staged new ≡ staged old ++ records
-  pub tree : tree_of new.present.held ≡ tree_of old.present.held
-  pub waits : Waits old new
-
--- these records are staged since a volume at rest, and nothing else has changed
-pub record HasStaged (records : List Record) (old new : Seen) : Type 0 where
-  pub staged : staged new ≡ records
-  pub tree : tree_of new.present.held ≡ tree_of old.present.held
-  pub stays : Stays old new
-  pub syncs : new.syncs ≡ old.syncs
-
--- the records were made stable and carried out
-pub record IsMade (records : List Record) (old new : Seen) : Type 0 where
-  pub tree : tree_of new.present.held ≡ after records (tree_of old.present.held)
-  pub stands : stand new.present.held ≡ Some (after records (tree_of old.present.held))
+-- the records that were staged were made stable and carried out
+pub record IsMade (old new : Seen) : Type 0 where
+  pub tree : tree_of new.present.held ≡ next_tree old
+  pub stands : stand new.present.held ≡ Some (next_tree old)
   pub said : new.present.said ≡ old.present.said
-  pub pictures : Since old new (IsBeforeOrAfter records old)
-  pub syncs : new.syncs ≤ old.syncs + 2
 
--- the records were being made stable and carried out, at whichever moment it ended
-pub record IsHalted (records : List Record) (old new : Seen) : Type 0 where
-  pub pictures : Since old new (IsBeforeOrAfter records old)
+-- they were being made stable and carried out, whichever way it ended
+pub record IsHalted (old new : Seen) : Type 0 where
+  pub pictures : Since old new (IsBeforeOrAfter (staged old) old)
   pub syncs : new.syncs ≤ old.syncs + 2
 
 -- a front of the bytes was said, and nothing else has changed
@@ -92,6 +78,10 @@ pub record IsFrontSaid (bytes : List ℕ) (old new : Seen) : Type 0 where
   pub pictures : Since old new (SaysFront bytes old)
   pub syncs : new.syncs ≡ old.syncs
 
--- the tree that the work of a step makes of a volume's tree
-abbrev pub next_tree : Work → Seen → Volume
-next_tree work old = after (records_for work.removes.items (files_of work.writes.items)) (tree_of old.present.held)
+-- all of a change is staged: the names that leave but for those that come, and its files
+pub record HasStaged (files : List (Name × List ℕ)) (waiting : Names) (names : List Name) (staging : Seen) : Type 0 where
+  pub removes : List Name
+  pub writes : List (Name × List ℕ)
+  pub records : staged staging ≡ records_for removes writes
+  pub moved : IsPermutation files writes
+  pub left : LeavesOut writes waiting names removes

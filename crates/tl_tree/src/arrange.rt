@@ -1,5 +1,6 @@
 //! The work of a step: names to remove and files to write, each once and in byte order.
 ghost use Rattle.std.specs.Prelude.{◌≡◌, ℕ, List, ◌++◌, [], ◌∷◌, OnOk, IfOk, IsTrue, true, false, map, ◌||◌};
+ghost use Rattle.std.specs.FinSet as set;
 ghost use Rattle.std.specs.List.Sorted.{IsPermutation};
 ghost use Rattle.tl_model.specs.Volume.{same_name};
 ghost use Rattle.tl_journal_text.specs.Records.{is_outside};
@@ -7,6 +8,7 @@ ghost use Rattle.tl_tree.specs.Changes.{named_bytes, coming_by, coming};
 ghost use Rattle.tl_tree.specs.Staged.{has_name, has_file, files_of, AreOutside, LeavesOut};
 
 use crate::change::Part;
+use crate::waiting::Waiting;
 use std::alloc::{AllocError, Global};
 use std::cmp::Ordering;
 use tl_file::FileBytes;
@@ -54,7 +56,11 @@ fn push_part<'a>(out: &mut Vec<Coming<'a>>, part: &'a Part) -> Result<(), AllocE
             })?;
             Ok(())
         }
-        Part::Remove { name: _ } | Part::Entry { entry: _ } | Part::Erase { path: _ } => Ok(()),
+        Part::Remove { name: _ }
+        | Part::Entry { entry: _ }
+        | Part::Erase { path: _ }
+        | Part::Stream { entry: _ }
+        | Part::Later { paths: _ } => Ok(()),
     }
 }
 
@@ -94,9 +100,14 @@ fn is_last(names: &[Path], path: &Path) -> bool
 }
 
 // Adds a name that is to be removed, unless it was added last or a file comes there.
-fn push_leaving(names: &mut Vec<Path>, path: Path, writes: &[Coming<'_>]) -> Result<(), AllocError>
+fn push_leaving(
+    names: &mut Vec<Path>,
+    path: Path,
+    writes: &[Coming<'_>],
+    waiting: &Waiting,
+) -> Result<(), AllocError>
     requires { is_outside path ≡ true }
-    ensures left { OnOk result ((name : List ℕ) → has_file name (files_of writes.now) ≡ false
+    ensures left { OnOk result ((name : List ℕ) → has_file name (files_of writes.now) ≡ false → set.contains waiting.now name ≡ false
         → has_name name names.new.items ≡ (has_name name names.old.items || same_name name path)) }
     ensures outside { OnOk result (AreOutside names.old.items → AreOutside names.new.items) }
 {
@@ -104,6 +115,9 @@ fn push_leaving(names: &mut Vec<Path>, path: Path, writes: &[Coming<'_>]) -> Res
         return Ok(());
     }
     if comes(writes, &path) {
+        return Ok(());
+    }
+    if waiting.has(&path) {
         return Ok(());
     }
     names.push(path)?;
@@ -115,14 +129,15 @@ fn each_once(
     alloc: Global,
     sorted: Vec<Path>,
     writes: &[Coming<'_>],
+    waiting: &Waiting,
 ) -> Result<Vec<Path>, AllocError>
     requires { AreOutside sorted.items }
-    ensures left { IfOk result (λ names. LeavesOut (files_of writes.now) sorted.items names.items) }
+    ensures left { IfOk result (λ names. LeavesOut (files_of writes.now) waiting.now sorted.items names.items) }
     ensures outside { IfOk result (λ names. AreOutside names.items) }
 {
     let mut names = Vec::with_capacity(alloc, sorted.len())?;
     for path in sorted {
-        push_leaving(&mut names, path, writes)?;
+        push_leaving(&mut names, path, writes, waiting)?;
     }
     Ok(names)
 }
@@ -141,21 +156,23 @@ fn all_coming<'a>(
     Ok(files)
 }
 
-/// The work of a step: of the names that leave, those at which no file comes, and the files of the parts and those made.
+/// The work of a step: of the names that leave, those at which no file comes, now or later, and the files of the parts and those
+/// made.
 pub fn arrange<'a>(
     alloc: Global,
     names: Vec<Path>,
     parts: &'a [Part],
     made: &'a [FileBytes],
+    waiting: &Waiting,
 ) -> Result<Work<'a>, AllocError>
     requires { AreOutside names.items }
     ensures writes { IfOk result (λ work. IsPermutation (coming parts.now ++ map named_bytes made.now) (files_of work.writes.items)) }
-    ensures removes { IfOk result (λ work. LeavesOut (files_of work.writes.items) names.items work.removes.items) }
+    ensures removes { IfOk result (λ work. LeavesOut (files_of work.writes.items) waiting.now names.items work.removes.items) }
     ensures outside { IfOk result (λ work. AreOutside work.removes.items) }
 {
     let writes = all_coming(alloc, parts, made)?;
     let mut names = names;
     names.sort_unstable();
-    let removes = each_once(alloc, names, writes.as_slice())?;
+    let removes = each_once(alloc, names, writes.as_slice(), waiting)?;
     Ok(Work { removes, writes })
 }

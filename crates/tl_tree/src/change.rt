@@ -18,6 +18,40 @@ pub enum Part {
     Write { path: Path, bytes: Bytes },
     /// The path is absent.
     Erase { path: Path },
+    /// As a `Put`, but the bytes of its files come later.
+    Stream { entry: Object },
+    /// As a `Write` of each path, but the bytes come later.
+    Later { paths: PathList },
+}
+
+/// Paths, in an order. Contracts see the list.
+#[derive(Drop)]
+pub struct PathList {
+    paths: Vec<Path>,
+}
+
+impl Model for PathList {
+    ghost use Rattle.std.specs.Prelude.{List, ℕ};
+
+    ghost Value = { List (List ℕ) };
+
+    ghost view = { λ l. l.paths.items };
+}
+
+impl PathList {
+    /// These paths, without memory.
+    pub fn new(paths: Vec<Path>) -> PathList
+        ensures { result ≡ paths.items }
+    {
+        PathList { paths }
+    }
+
+    /// The paths.
+    pub fn as_slice(&self) -> &[Path]
+        ensures { result.now ≡ self.now }
+    {
+        self.paths.as_slice()
+    }
 }
 
 /// The parts of a change, in order. Contracts see the list.

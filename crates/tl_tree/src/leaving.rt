@@ -1,9 +1,9 @@
-//! The names that leave.
+//! The names that leave, and the paths whose bytes come later.
 ghost use Rattle.std.specs.Prelude.{◌≡◌, ◌++◌, [], ◌∷◌, OnOk, IfOk, not, filter, map};
 ghost use Rattle.std.specs.List.{flat_map};
 ghost use Rattle.tl_path.specs.Reserved.{is_reserved};
 ghost use Rattle.tl_db.specs.Entries.{entry_of};
-ghost use Rattle.tl_tree.specs.Changes.{path_of, bin_paths, own, own_of, leaving_by, leaving};
+ghost use Rattle.tl_tree.specs.Changes.{path_of, bin_paths, own, own_of, leaving_by, leaving, later_by, later};
 
 use crate::change::Part;
 use std::alloc::{AllocError, Global};
@@ -74,12 +74,15 @@ fn push_part(alloc: Global, out: &mut Vec<Path>, db: &Db, part: &Part) -> Result
 {
     match part {
         Part::Put { entry, files: _ } => push_named(alloc, out, db, &entry.name),
+        Part::Stream { entry } => push_named(alloc, out, db, &entry.name),
         Part::Remove { name } => push_named(alloc, out, db, name),
         Part::Erase { path } => {
             out.push(path.clone()?)?;
             Ok(())
         }
-        Part::Entry { entry: _ } | Part::Write { path: _, bytes: _ } => Ok(()),
+        Part::Entry { entry: _ } | Part::Write { path: _, bytes: _ } | Part::Later { paths: _ } => {
+            Ok(())
+        }
     }
 }
 
@@ -90,6 +93,40 @@ pub fn leaving(alloc: Global, db: &Db, parts: &[Part]) -> Result<Vec<Path>, Allo
     let mut out = Vec::new(alloc);
     for part in parts {
         push_part(alloc, &mut out, db, part)?;
+    }
+    Ok(out)
+}
+
+fn push_each(out: &mut Vec<Path>, paths: &[Path]) -> Result<(), AllocError>
+    ensures { OnOk result (out.new.items ≡ out.old.items ++ paths.now) }
+{
+    for path in paths {
+        out.push(path.clone()?)?;
+    }
+    Ok(())
+}
+
+fn push_later(alloc: Global, out: &mut Vec<Path>, part: &Part) -> Result<(), AllocError>
+    ensures { OnOk result (out.new.items ≡ out.old.items ++ later_by part.now) }
+{
+    match part {
+        Part::Stream { entry } => push_entry(alloc, out, entry),
+        Part::Later { paths } => push_each(out, paths.as_slice()),
+        Part::Put { entry: _, files: _ }
+        | Part::Remove { name: _ }
+        | Part::Entry { entry: _ }
+        | Part::Write { path: _, bytes: _ }
+        | Part::Erase { path: _ } => Ok(()),
+    }
+}
+
+/// The paths of a change whose bytes come later.
+pub fn later(alloc: Global, parts: &[Part]) -> Result<Vec<Path>, AllocError>
+    ensures { IfOk result (λ paths. paths.items ≡ later parts.now) }
+{
+    let mut out = Vec::new(alloc);
+    for part in parts {
+        push_later(alloc, &mut out, part)?;
     }
     Ok(out)
 }

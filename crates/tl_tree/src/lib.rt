@@ -6,17 +6,21 @@
 
 mod arrange;
 mod change;
+mod contents;
 mod entries;
 mod error;
-mod held;
 mod leaving;
 mod load;
 mod look;
 mod own;
 mod stage;
+mod step;
 mod tree;
+mod waiting;
 
-pub use change::{Change, Part, PartList};
+pub use change::{Change, Part, PartList, PathList};
+pub use contents::ContentsError;
 pub use error::{StepError, TreeError};
 pub use load::canonical_database;
+pub use step::Step;
 pub use tree::Tree;

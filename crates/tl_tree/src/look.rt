@@ -15,7 +15,7 @@ use tl_journal::{Clean, HostFault};
 use tl_path::{Path, PathRef};
 
 // Whether a name is below the journal's folder.
-fn is_ours(name: &[u8]) -> bool
+pub(crate) fn is_ours(name: &[u8]) -> bool
     ensures { result ≡ is_ours name.now }
 {
     name.starts_with(b"tlpkg/journal/")

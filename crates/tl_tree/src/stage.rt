@@ -1,26 +1,37 @@
 //! A step over the journal.
 ghost use Rattle.std.specs.Prelude.{◌≡◌, ◌≤◌, ◌+◌, [], ◌∷◌, ◌++◌, IfOk, IfErr};
 ghost use Rattle.tl_model.specs.Causes.{HasCause};
-ghost use Rattle.tl_model.specs.Seen.{Told};
+ghost use Rattle.tl_model.specs.Seen.{Seen, Told, Quiet};
 ghost use Rattle.tl_model.specs.Acks.{IsLabel};
 ghost use Rattle.tl_model.specs.Trace.{Step, Trace, Cut};
-ghost use Rattle.tl_journal_text.specs.Stand.{stand, tree_of, Stays};
+ghost use Rattle.tl_journal_text.specs.Stand.{stand, tree_of};
 ghost use Rattle.tl_journal.specs.States.{staged};
-ghost use Rattle.tl_journal.specs.Spent.{left_by};
-ghost use Rattle.tl_tree.specs.Staged.{files_of, AreOutside, FilesOutside, removes_of, writes_of, records_for, Waits, Adds, HasStaged, IsMade, IsHalted, IsFrontSaid, next_tree};
+ghost use Rattle.tl_journal.specs.Spent.{left_by, Stages};
+ghost use Rattle.tl_tree.specs.Staged.{files_of, AreOutside, FilesOutside, removes_of, writes_of, records_for, IsMade, IsHalted, IsFrontSaid, next_tree};
 
 use crate::arrange::{Coming, Work};
-use tl_host::Host;
+use tl_host::{Failed, Host};
 use tl_journal::{Clean, HostFault, Lost, Staging};
 use tl_path::Path;
+
+/// Asks for the size of each file that comes: a name that the host can't take fails here, before anything is staged.
+pub fn ask_sizes<H: Host>(journal: &mut Clean<H>, files: &[Coming<'_>]) -> Result<(), Failed>
+    ensures same { Told H.tells (Quiet journal.old journal.new) }
+    ensures cause { HasCause journal.old.faults journal.new.faults result }
+{
+    for file in files {
+        journal.size(file.path.view())?;
+    }
+    Ok(())
+}
 
 fn stage_removes<H: Host>(
     staging: Staging<H>,
     names: &[Path],
 ) -> Result<Staging<H>, Lost<H, HostFault>>
     requires { AreOutside names.now }
-    ensures staged { Told H.tells (IfOk result (λ more. Adds (removes_of names.now) staging more)) }
-    ensures waits { Told H.tells (Waits staging (left_by H.seen result)) }
+    ensures added { Told H.tells (IfOk result (λ more. staged more ≡ staged staging ++ removes_of names.now)) }
+    ensures keeps { Told H.tells ((first : Seen) → Stages first staging → Stages first (left_by H.seen result)) }
     ensures cause { HasCause staging.faults (left_by H.seen result).faults result }
 {
     let mut staging = staging;
@@ -38,8 +49,8 @@ fn stage_writes<H: Host>(
     files: &[Coming<'_>],
 ) -> Result<Staging<H>, Lost<H, HostFault>>
     requires { FilesOutside (files_of files.now) }
-    ensures staged { Told H.tells (IfOk result (λ more. Adds (writes_of (files_of files.now)) staging more)) }
-    ensures waits { Told H.tells (Waits staging (left_by H.seen result)) }
+    ensures added { Told H.tells (IfOk result (λ more. staged more ≡ staged staging ++ writes_of (files_of files.now))) }
+    ensures keeps { Told H.tells ((first : Seen) → Stages first staging → Stages first (left_by H.seen result)) }
     ensures cause { HasCause staging.faults (left_by H.seen result).faults result }
 {
     let mut staging = staging;
@@ -52,13 +63,15 @@ fn stage_writes<H: Host>(
     Ok(staging)
 }
 
-// Stages the records of a step.
-fn stage_all<H: Host>(journal: Clean<H>, work: &Work<'_>) -> Result<Staging<H>, Lost<H, HostFault>>
+/// Stages the records of a step.
+pub fn stage_all<H: Host>(
+    journal: Clean<H>,
+    work: &Work<'_>,
+) -> Result<Staging<H>, Lost<H, HostFault>>
     requires names { AreOutside work.now.removes.items }
     requires files { FilesOutside (files_of work.now.writes.items) }
-    ensures staged { Told H.tells (IfOk result (λ staging. HasStaged (records_for work.now.removes.items (files_of work.now.writes.items)) journal staging)) }
-    ensures stays { Told H.tells (Stays journal (left_by H.seen result)) }
-    ensures syncs { Told H.tells ((left_by H.seen result).syncs ≡ journal.syncs) }
+    ensures staged { Told H.tells (IfOk result (λ staging. staged staging ≡ records_for work.now.removes.items (files_of work.now.writes.items))) }
+    ensures stages { Told H.tells (Stages journal (left_by H.seen result)) }
     ensures cause { HasCause journal.faults (left_by H.seen result).faults result }
 {
     let empty = match journal.stage() {
@@ -74,8 +87,8 @@ fn stage_all<H: Host>(journal: Clean<H>, work: &Work<'_>) -> Result<Staging<H>, 
 
 // Makes what is staged stable, and carries it out.
 fn make<H: Host>(staging: Staging<H>) -> Result<Clean<H>, Lost<H, HostFault>>
-    ensures made { Told H.tells (IfOk result (λ clean. IsMade (staged staging) staging clean)) }
-    ensures halted { Told H.tells (IsHalted (staged staging) staging (left_by H.seen result)) }
+    ensures made { Told H.tells (IfOk result (IsMade staging)) }
+    ensures halted { Told H.tells (IsHalted staging (left_by H.seen result)) }
     ensures cause { HasCause staging.faults (left_by H.seen result).faults result }
 {
     let committed = match staging.commit() {
@@ -104,29 +117,20 @@ fn acknowledge<H: Host>(journal: Clean<H>, label: &[u8]) -> Result<Clean<H>, Los
     }
 }
 
-/// Makes a step: its records are staged, made stable and carried out, and its label is said.
-pub fn carry_out<H: Host>(
-    journal: Clean<H>,
-    work: &Work<'_>,
+/// Makes a step of what is staged: it is made stable and carried out, and the label is said.
+pub fn commit_step<H: Host>(
+    staging: Staging<H>,
     label: &[u8],
 ) -> Result<Clean<H>, Lost<H, HostFault>>
-    requires names { AreOutside work.now.removes.items }
-    requires files { FilesOutside (files_of work.now.writes.items) }
-    requires label { IsLabel label.now }
-    ensures tree { Told H.tells (IfOk result (λ clean. tree_of clean.present.held ≡ next_tree work.now journal)) }
-    ensures trace { Told H.tells (IfOk result (λ clean. Trace stand journal clean (tree_of journal.present.held) (Step (next_tree work.now journal) label.now ∷ []))) }
-    ensures cut { Told H.tells (IfErr result (λ lost. Cut stand journal (H.seen lost.host) (tree_of journal.present.held) (Step (next_tree work.now journal) label.now ∷ []))) }
-    ensures syncs { Told H.tells ((left_by H.seen result).syncs ≤ journal.syncs + 2) }
-    ensures cause { HasCause journal.faults (left_by H.seen result).faults result }
+    requires { IsLabel label.now }
+    ensures tree { Told H.tells (IfOk result (λ clean. tree_of clean.present.held ≡ next_tree staging)) }
+    ensures trace { Told H.tells (IfOk result (λ clean. Trace stand staging clean (tree_of staging.present.held) (Step (next_tree staging) label.now ∷ []))) }
+    ensures cut { Told H.tells (IfErr result (λ lost. Cut stand staging (H.seen lost.host) (tree_of staging.present.held) (Step (next_tree staging) label.now ∷ []))) }
+    ensures syncs { Told H.tells ((left_by H.seen result).syncs ≤ staging.syncs + 2) }
+    ensures cause { HasCause staging.faults (left_by H.seen result).faults result }
 {
-    journal.stands();
-    let staging = match stage_all(journal, work) {
-        Ok(staging) => staging,
-        Err(lost) => return Err(lost),
-    };
-    let made = match make(staging) {
-        Ok(made) => made,
-        Err(lost) => return Err(lost),
-    };
-    acknowledge(made, label)
+    match make(staging) {
+        Ok(made) => acknowledge(made, label),
+        Err(lost) => Err(lost),
+    }
 }

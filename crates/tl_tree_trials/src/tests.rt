@@ -1,5 +1,5 @@
-//! A step with each kind of part, and the reading calls of a tree.
-use crate::agreed::{Parts, each_kind};
+//! Steps, and the reading calls of a tree.
+use crate::agreed::{Loose, of_entries, of_files};
 use std::alloc::Global;
 use std::process::Abort;
 use tl_file::{Bytes, FileBytes};
@@ -13,11 +13,11 @@ const DATABASE: &str = "tlpkg/texlive.tlpdb";
 
 const BODY: &str = "tlpkg/journal/body";
 
-// The database before the step of each kind of part. The entries a and b list one path in common.
+// The database before the steps. The entries a and b list one path in common.
 const BEFORE: &[u8] =
     b"name a\nrunfiles size=2\n texmf-dist/a/old.sty\n texmf-dist/a/same.sty\n\nname b\ndocfiles size=1\n texmf-dist/a/b.sty\nrunfiles size=2\n texmf-dist/a/old.sty\n tlpkg/marks\n\nname c\nsrcfiles size=1\n texmf-dist/c/c.sty\n";
 
-// What the host holds before it.
+// What the host holds before them.
 const START: &[(&str, &[u8])] = &[
     (DATABASE, BEFORE),
     ("texmf-dist/a/b.sty", b"b"),
@@ -29,24 +29,20 @@ const START: &[(&str, &[u8])] = &[
     ("tlpkg/marks", b"1"),
 ];
 
-const PUT: &[u8] =
-    b"name a\nrevision 2\nexecute addMap a.map\nrunfiles size=2\n texmf-dist/a/new.sty\n texmf-dist/a/same.sty\n";
-
-const ENTRY: &[u8] = b"name c\nrevision 7\nsrcfiles size=1\n texmf-dist/c/c.sty\n";
+const ENTRY: &[u8] =
+    b"name c\nrevision 7\nexecute addMap c.map\nsrcfiles size=1\n texmf-dist/c/c.sty\n";
 
 const AFTER: &[u8] =
-    b"name a\ncategory Package\nrevision 2\nexecute addMap a.map\nrunfiles size=2\n texmf-dist/a/new.sty\n texmf-dist/a/same.sty\n\nname c\ncategory Package\nrevision 7\nsrcfiles size=1\n texmf-dist/c/c.sty\n\n";
+    b"name a\ncategory Package\nrevision 0\nrunfiles size=2\n texmf-dist/a/old.sty\n texmf-dist/a/same.sty\n\nname c\ncategory Package\nrevision 7\nexecute addMap c.map\nsrcfiles size=1\n texmf-dist/c/c.sty\n\n";
 
-// What the host holds after it.
+// What the host holds after the step that removes b and enters c.
 const END: &[(&str, Option<&[u8]>)] = &[
     (DATABASE, Some(AFTER)),
     ("texmf-dist/a/b.sty", None),
-    ("texmf-dist/a/new.sty", Some(b"new")),
     ("texmf-dist/a/old.sty", None),
-    ("texmf-dist/a/same.sty", Some(b"two")),
+    ("texmf-dist/a/same.sty", Some(b"one")),
     ("texmf-dist/c/c.sty", Some(b"c")),
-    ("texmf-dist/gone.txt", None),
-    ("texmf-var/note.txt", Some(b"notes")),
+    ("texmf-dist/gone.txt", Some(b"gone")),
     ("tlpkg/marks", Some(b"1")),
     (
         "texmf-dist/web2c/fmtutil.cnf",
@@ -54,7 +50,7 @@ const END: &[(&str, Option<&[u8]>)] = &[
     ),
     (
         "texmf-dist/web2c/updmap.cfg",
-        Some(b"# updmap.cfg, written by tlmgr\nMap a.map\n"),
+        Some(b"# updmap.cfg, written by tlmgr\nMap c.map\n"),
     ),
     (
         "texmf-var/tex/generic/config/language.dat",
@@ -74,12 +70,8 @@ const END: &[(&str, Option<&[u8]>)] = &[
 const RECORDS: &[&[u8]] = &[
     b"R\x00\x12texmf-dist/a/b.sty",
     b"R\x00\x14texmf-dist/a/old.sty",
-    b"R\x00\x13texmf-dist/gone.txt",
-    b"W\x00\x14texmf-dist/a/new.sty\x00\x00\x00\x00\x00\x00\x00\x03new",
-    b"W\x00\x15texmf-dist/a/same.sty\x00\x00\x00\x00\x00\x00\x00\x03two",
     b"W\x00\x1ctexmf-dist/web2c/fmtutil.cnf\x00\x00\x00\x00\x00\x00\x00\x20# fmtutil.cnf, written by tlmgr\n",
-    b"W\x00\x1btexmf-dist/web2c/updmap.cfg\x00\x00\x00\x00\x00\x00\x00\x29# updmap.cfg, written by tlmgr\nMap a.map\n",
-    b"W\x00\x12texmf-var/note.txt\x00\x00\x00\x00\x00\x00\x00\x05notes",
+    b"W\x00\x1btexmf-dist/web2c/updmap.cfg\x00\x00\x00\x00\x00\x00\x00\x29# updmap.cfg, written by tlmgr\nMap c.map\n",
     b"W\x00\x29texmf-var/tex/generic/config/language.dat\x00\x00\x00\x00\x00\x00\x00\x21% language.dat, written by tlmgr\n",
     b"W\x00\x2dtexmf-var/tex/generic/config/language.dat.lua\x00\x00\x00\x00\x00\x00\x00\x31-- language.dat.lua, written by tlmgr\nreturn {\n}\n",
     b"W\x00\x29texmf-var/tex/generic/config/language.def\x00\x00\x00\x00\x00\x00\x00\x21% language.def, written by tlmgr\n",
@@ -139,25 +131,11 @@ fn planted(rt: &impl Abort, alloc: Global, host: MemHost) -> Tree<MemHost> {
         .expect(rt, "a tree")
 }
 
-fn parts(rt: &impl Abort, alloc: Global) -> Parts {
-    Parts {
-        put: object(rt, alloc, PUT),
-        first: file(rt, alloc, "texmf-dist/a/same.sty", b"two"),
-        second: file(rt, alloc, "texmf-dist/a/new.sty", b"new"),
-        removed: Name::parse(alloc, b"b").ok().expect(rt, "a name"),
-        entry: object(rt, alloc, ENTRY),
-        written: file(rt, alloc, "texmf-var/note.txt", b"notes"),
-        erased: path(rt, alloc, "texmf-dist/gone.txt"),
-    }
-}
-
-// A step with a part of each kind.
+// A step that removes b and enters c.
 fn stepped(rt: &impl Abort, alloc: Global, tree: Tree<MemHost>) -> Tree<MemHost> {
-    match each_kind(rt, alloc, parts(rt, alloc)) {
-        Ok(change) => {
-            assert_eq!(rt; change.parts.as_slice().len(), 5);
-            tree.step(alloc, &change).ok().expect(rt, "a step")
-        }
+    let removed = Name::parse(alloc, b"b").ok().expect(rt, "a name");
+    match of_entries(rt, alloc, removed, object(rt, alloc, ENTRY)) {
+        Ok(change) => tree.step(alloc, &change).ok().expect(rt, "a step"),
         Err(_) => panic!(rt; "no memory"),
     }
 }
@@ -192,6 +170,42 @@ fn a_step_changes_files_and_entries_at_once(rt: HostRuntime) {
     assert_eq!(rt; host.said(), b"step 1/1 edit done\n".as_slice());
     assert_eq!(rt; host.syncs(), 3);
     assert_eq!(rt; host.short(), 0);
+}
+
+fn loose(rt: &impl Abort, alloc: Global) -> Loose {
+    Loose {
+        written: file(rt, alloc, "texmf-var/note.txt", b"notes"),
+        erased: path(rt, alloc, "texmf-dist/gone.txt"),
+        later: path(rt, alloc, "texmf-var/later.txt"),
+    }
+}
+
+// Opens a step of files one of which comes later, gives it a part of that file, and gives the step up.
+fn abandoned(rt: &impl Abort, alloc: Global, tree: Tree<MemHost>) -> Tree<MemHost> {
+    match of_files(rt, alloc, &tree, loose(rt, alloc)) {
+        Ok(change) => {
+            let opened = tree.open_step(alloc, &change).ok().expect(rt, "a step");
+            let later = path(rt, alloc, "texmf-var/later.txt");
+            let begun = opened.file(&later, 4).ok().expect(rt, "a file");
+            begun.piece(b"la").ok().expect(rt, "bytes").abandon()
+        }
+        Err(_) => panic!(rt; "no memory"),
+    }
+}
+
+#[test]
+fn a_step_that_is_given_up_leaves_the_tree(rt: HostRuntime) {
+    let alloc = rt.alloc();
+    let before = planted(&rt, alloc, host(&rt, alloc, START));
+    let after = abandoned(&rt, alloc, before);
+    assert_eq!(rt; after.db().len(), 3);
+    let host = after.release().into_host();
+    for (name, bytes) in START {
+        let name = path(&rt, alloc, name);
+        assert_eq!(rt; host.file(&name), Some(*bytes));
+    }
+    assert_eq!(rt; host.file(&path(&rt, alloc, "texmf-var/note.txt")), None);
+    assert_eq!(rt; host.said(), b"".as_slice());
 }
 
 fn has_owners(rt: &impl Abort, alloc: Global, tree: &Tree<MemHost>) {

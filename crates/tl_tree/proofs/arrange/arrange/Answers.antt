@@ -13,6 +13,6 @@ each_once-requires c =
     recursion_from_All P c.sort_unstable.new.self.items (All-permutation P c.args.names.items c.sort_unstable.new.self.items c.sort_unstable.ensures.permutation (All-from_recursion P c.args.names.items c.requires))
 
 pub returns-clause-removes : goal.returns-clause-removes
-returns-clause-removes c name none =
-    c.in_ok-removes.ensures.left name (ap (λ (l : List Coming). has_file name (files_of l)) c.as_slice.ensures.value ∙ none)
+returns-clause-removes c name none free =
+    c.in_ok-removes.ensures.left name (ap (λ (l : List Coming). has_file name (files_of l)) c.as_slice.ensures.value ∙ none) free
     ∙ sym (list_any-IsPermutation (λ (n : Name). same_name name n) c.args.names.items c.sort_unstable.new.self.items c.sort_unstable.ensures.permutation)

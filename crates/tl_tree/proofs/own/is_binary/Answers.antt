@@ -1,4 +1,4 @@
-use Rattle.std.proofs.Common.{◌||◌, arith, sym, ap, ◌∙◌, List}
+use Rattle.std.proofs.Common.{◌||◌, arith, sym, ap, ◌∙◌}
 use Rattle.tl_model.specs.Volume.{Name}
 use Rattle.tl_entry.specs.Rising.{has_key}
 use Rattle.tl_tree.proofs.Owning.{key-bins_more, key-bins_at}

@@ -1,9 +1,8 @@
-use Rattle.tl_journal.specs.States.{staged}
 use Rattle.tl_tree.proofs.Steps.{made_of, halted_of, halted_early}
 use Rattle.tl_tree.proofs.stage.make.Goals as goal
 
 pub returns-in-Err-clause-halted : goal.returns-in-Err-clause-halted
-returns-in-Err-clause-halted g c t = halted_early c.args.staging _ (c.in-Err.ensures.commits t)
+returns-in-Err-clause-halted g c t = halted_early c.args.staging (g.H.Host.seen c.in-Err.lost.host) (c.in-Err.ensures.commits t)
 
 pub returns-in-Ok-apply-clause-made : goal.returns-in-Ok-apply-clause-made
 returns-in-Ok-apply-clause-made g c t =
@@ -17,5 +16,6 @@ returns-in-Ok-apply-clause-halted g c t =
 
 pub returns-in-Err-apply-clause-halted : goal.returns-in-Err-apply-clause-halted
 returns-in-Err-apply-clause-halted g c t =
-    halted_of c.args.staging c.in-Ok.committed _ (g.H.Host.seen c.in-Err-apply.lost.host) (λ i. g.H.Host.seen c.in-Err-apply.lost.host)
+    let last = g.H.Host.seen c.in-Err-apply.lost.host in
+    halted_of c.args.staging c.in-Ok.committed last last (λ i. last)
     (c.in-Ok.ensures.committed t) (c.in-Ok.ensures.commits t) (c.in-Err-apply.ensures.carries_out t)

@@ -1,61 +1,35 @@
-use Rattle.std.proofs.Common.{◌≡◌, ◌∙◌, ap, subst, true, List}
-use Rattle.std.specs.Prelude.{map}
-use Rattle.tl_file.specs.declared.file.FileBytes.{FileBytes}
+use Rattle.std.proofs.Common.{◌∙◌, List, ap}
 use Rattle.tl_tree.specs.declared.change.Part.{Part}
-use Rattle.tl_tree.specs.Changes.{named_bytes, has_entries}
-use Rattle.tl_tree.specs.Staged.{files_of}
-use Rattle.tl_tree.proofs.Performs.{still, plan_lost, names_may_go, files_may_come, tree_is, trace_is, cut_is, within_is}
+use Rattle.tl_tree.specs.Changes.{entries_after}
+use Rattle.tl_tree.specs.Filled.{filled}
+use Rattle.tl_tree.specs.Opened.{Opened, given}
+use Rattle.tl_tree.proofs.Stepping.{filled_none, begun_whole, lost_opening, step_stepped, step_lost}
 use Rattle.tl_tree.proofs.tree.Tree.step.Goals as goal
 
 pub returns-in-Err-clause-lost : goal.returns-in-Err-clause-lost
 returns-in-Err-clause-lost g c t =
-    plan_lost c.args.self c.args.change.now.parts c.args.change.now.label _ c.in-Err.fault (g.H.Host.seen c.into_host.result) c.in-Err.ensures.error
-    (still c.args.self c.self.inside.journal c.self.inside.entries (g.H.Host.seen c.into_host.result) c.self.view_is (c.stands.ensures.tree t) (c.stands.ensures.stays t) c.into_host.ensures)
+    lost_opening c.args.self c.args.change.now.parts c.args.change.now.label c.in-Err.lost.fault (g.H.Host.seen c.in-Err.lost.host) c.requires.change.label (c.stands.ensures.tree t) (c.in-Err.ensures.stages t)
 
-pub returns-in-Err-clause-speaks : goal.returns-in-Err-clause-speaks
-returns-in-Err-clause-speaks g c limit = subst (λ (ps : List Part). has_entries ps ≡ true) c.as_slice-parts.ensures (c.in-Err.ensures.speaks limit)
+pub finish-requires : goal.finish-requires
+finish-requires g c = begun_whole c.args.self c.args.change.now.parts c.args.change.now.label c.in-Ok.step c.in-Ok.ensures.opened.0 c.requires.whole
 
-pub arrange-requires : goal.arrange-requires
-arrange-requires g c =
-    names_may_go c.args.self c.args.change.now.parts c.args.change.now.label c.requires c.self.inside.journal c.self.inside.entries c.self.view_is c.as_slice-parts.result.now c.as_slice-parts.ensures
-    c.in-Ok.plan.names.items c.in-Ok.ensures.leaving
+pub returns-in-Ok-finish-clause-db : goal.returns-in-Ok-finish-clause-db
+returns-in-Ok-finish-clause-db g c =
+    let step = c.in-Ok.step in
+    let parts = c.args.change.now.parts in
+    let is = c.in-Ok.ensures.opened.0 in (
+      c.in-Ok-finish.ensures.db
+          ∙ ap (λ (ps : List Part). entries_after ps step.db) (ap (λ (o : Opened). filled (given step) o.parts) is ∙ filled_none (given step) parts c.requires.whole)
+          ∙ ap (λ (o : Opened). entries_after parts o.db) is,
+      c.in-Ok.ensures.opened.1,
+    )
 
-pub returns-in-Err-arrange-clause-lost : goal.returns-in-Err-arrange-clause-lost
-returns-in-Err-arrange-clause-lost g c t =
-    still c.args.self c.self.inside.journal c.self.inside.entries (g.H.Host.seen c.into_host-in-Err-arrange.result) c.self.view_is (c.stands.ensures.tree t) (c.stands.ensures.stays t) c.into_host-in-Err-arrange.ensures
+pub returns-in-Ok-finish-clause-stepped : goal.returns-in-Ok-finish-clause-stepped
+returns-in-Ok-finish-clause-stepped g c t =
+    step_stepped c.args.self c.args.change.now.parts c.args.change.now.label c.in-Ok.step c.in-Ok.ensures.opened.0 c.requires.whole (c.stands.ensures.tree t) (c.in-Ok.ensures.stages t)
+    c.in-Ok-finish.tree (c.in-Ok-finish.ensures.stepped t)
 
-pub carry_out-requires-clause-files : goal.carry_out-requires-clause-files
-carry_out-requires-clause-files g c =
-    files_may_come c.args.self c.args.change.now.parts c.args.change.now.label c.requires c.self.inside.journal c.self.inside.entries c.self.view_is c.as_slice-parts.result.now c.as_slice-parts.ensures
-    c.in-Ok.plan.entries c.in-Ok.plan.names.items (map named_bytes c.as_slice.result.now) (files_of c.in-Ok-arrange.work.writes.items) c.in-Ok.ensures.leaving c.in-Ok.ensures.after
-    (ap (λ (fs : List FileBytes). map named_bytes fs) c.as_slice.ensures.value ∙ c.in-Ok.ensures.made) c.in-Ok-arrange.ensures.writes
-
-pub returns-in-Ok-carry_out-clause-within : goal.returns-in-Ok-carry_out-clause-within
-returns-in-Ok-carry_out-clause-within g c within =
-    within_is c.args.self c.args.change.now.parts c.args.change.now.label c.requires c.self.inside.journal c.self.inside.entries c.self.view_is c.as_slice-parts.result.now c.as_slice-parts.ensures
-    c.in-Ok.plan.entries c.in-Ok.ensures.after c.in-Ok.ensures.within within
-
-pub returns-in-Ok-carry_out-clause-tree : goal.returns-in-Ok-carry_out-clause-tree
-returns-in-Ok-carry_out-clause-tree g c t =
-    c.in-Ok-carry_out.ensures.tree t
-    ∙ tree_is c.args.self c.args.change.now.parts c.args.change.now.label c.requires c.self.inside.journal c.self.inside.entries c.self.view_is c.as_slice-parts.result.now c.as_slice-parts.ensures
-    c.in-Ok.plan.entries c.in-Ok.plan.names.items (map named_bytes c.as_slice.result.now) (files_of c.in-Ok-arrange.work.writes.items) c.in-Ok.ensures.leaving c.in-Ok.ensures.after
-    (ap (λ (fs : List FileBytes). map named_bytes fs) c.as_slice.ensures.value ∙ c.in-Ok.ensures.made) c.in-Ok-arrange.ensures.writes c.in-Ok-arrange.work.removes.items c.in-Ok-arrange.ensures.removes
-
-pub returns-in-Ok-carry_out-clause-trace : goal.returns-in-Ok-carry_out-clause-trace
-returns-in-Ok-carry_out-clause-trace g c t =
-    trace_is c.args.self c.args.change.now.parts c.args.change.now.label c.requires c.self.inside.journal c.self.inside.entries c.self.view_is c.as_slice-parts.result.now c.as_slice-parts.ensures
-    c.in-Ok-carry_out.journal _ c.as_slice-2.result.now
-    (tree_is c.args.self c.args.change.now.parts c.args.change.now.label c.requires c.self.inside.journal c.self.inside.entries c.self.view_is c.as_slice-parts.result.now c.as_slice-parts.ensures
-    c.in-Ok.plan.entries c.in-Ok.plan.names.items (map named_bytes c.as_slice.result.now) (files_of c.in-Ok-arrange.work.writes.items) c.in-Ok.ensures.leaving c.in-Ok.ensures.after
-    (ap (λ (fs : List FileBytes). map named_bytes fs) c.as_slice.ensures.value ∙ c.in-Ok.ensures.made) c.in-Ok-arrange.ensures.writes c.in-Ok-arrange.work.removes.items c.in-Ok-arrange.ensures.removes)
-    c.as_slice-2.ensures (c.in-Ok-carry_out.ensures.trace t)
-
-pub returns-clause-lost : goal.returns-clause-lost
-returns-clause-lost g c t =
-    cut_is c.args.self c.args.change.now.parts c.args.change.now.label c.requires c.self.inside.journal c.self.inside.entries c.self.view_is c.as_slice-parts.result.now c.as_slice-parts.ensures
-    (g.H.Host.seen c.in-Err-carry_out.lost.host) _ c.as_slice-2.result.now
-    (tree_is c.args.self c.args.change.now.parts c.args.change.now.label c.requires c.self.inside.journal c.self.inside.entries c.self.view_is c.as_slice-parts.result.now c.as_slice-parts.ensures
-    c.in-Ok.plan.entries c.in-Ok.plan.names.items (map named_bytes c.as_slice.result.now) (files_of c.in-Ok-arrange.work.writes.items) c.in-Ok.ensures.leaving c.in-Ok.ensures.after
-    (ap (λ (fs : List FileBytes). map named_bytes fs) c.as_slice.ensures.value ∙ c.in-Ok.ensures.made) c.in-Ok-arrange.ensures.writes c.in-Ok-arrange.work.removes.items c.in-Ok-arrange.ensures.removes)
-    c.as_slice-2.ensures (c.in-Err-carry_out.ensures.cut t)
+pub returns-in-Err-finish-clause-lost : goal.returns-in-Err-finish-clause-lost
+returns-in-Err-finish-clause-lost g c t =
+    step_lost c.args.self c.args.change.now.parts c.args.change.now.label c.in-Ok.step c.in-Ok.ensures.opened.0 c.requires.whole (c.stands.ensures.tree t) (c.in-Ok.ensures.stages t)
+    (g.H.Host.seen c.in-Err-finish.lost.host) (c.in-Err-finish.ensures.lost t)
