@@ -1,0 +1,4 @@
+mod NameLemmas
+mod ReachLemmas
+mod WordLemmas
+mod NeedLemmas
