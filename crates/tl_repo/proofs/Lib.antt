@@ -1,0 +1,3 @@
+pub mod DigestLemmas
+pub mod LoadLemmas
+pub mod ShelfLemmas
