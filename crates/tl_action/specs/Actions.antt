@@ -1,10 +1,10 @@
 -- Which action a value is one of.
-use Rattle.std.specs.Prelude.{IsTrue}
+use Rattle.std.specs.Prelude.{IsTrue, List}
 use Rattle.tl_action.specs.declared.action_name.ActionName.{ActionName}
 use Rattle.tl_action.specs.declared.action_name.ActionName.TheVariants as names
 use Rattle.tl_action.specs.declared.command.Action.{Action}
 use Rattle.tl_action.specs.declared.command.Action.TheVariants as actions
-use Rattle.tl_action.specs.Table.{built_actions, session_actions, is_on}
+use Rattle.tl_action.specs.Table.{is_on}
 
 -- the name of an action
 abbrev pub action_name : Action → ActionName
@@ -29,10 +29,6 @@ action_name (actions.Which word) = names.Which
 action_name actions.Shell = names.Shell
 action_name (actions.GenerateMaster count) = names.GenerateMaster
 
--- the action is one of those that are built
-abbrev pub IsBuilt : Action → Type 0
-IsBuilt action = IsTrue (is_on built_actions (action_name action))
-
--- the action is one of those that are on in a session's line
-abbrev pub IsBuiltForSessions : Action → Type 0
-IsBuiltForSessions action = IsTrue (is_on session_actions (action_name action))
+-- the action is on, where some are
+abbrev pub IsOn : List ActionName → Action → Type 0
+IsOn on action = IsTrue (is_on on (action_name action))

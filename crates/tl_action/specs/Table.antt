@@ -1,5 +1,5 @@
 -- The options and actions that the program knows.
-use Rattle.std.specs.Prelude.{ℕ, ◌==◌, Bool, true, false, cond, ◌||◌, not, if◌then◌else◌, List, [], ◌∷◌, codes, Option, find, filter, bytes_eq}
+use Rattle.std.specs.Prelude.{ℕ, ◌==◌, Bool, true, false, cond, ◌||◌, not, if◌then◌else◌, List, [], ◌∷◌, codes, Option, find, bytes_eq}
 use Rattle.std.specs.List.{list_any}
 use Rattle.tl_action.specs.declared.table.OptionName.{OptionName}
 use Rattle.tl_action.specs.declared.table.OptionName.TheVariants.{Repository, Workers, Usertree, Usermode, Local, All, Force, Formats, Reinstall, NoDepends, NoDependsAtAll, NoAutoInstall, NoAutoRemove, ReinstallForciblyRemoved}
@@ -71,20 +71,6 @@ action_text Lsr = codes "lsr"
 action_text Which = codes "which"
 action_text Shell = codes "shell"
 action_text GenerateMaster = codes "generate-master"
-
--- the actions that are built, and so are on
-abbrev pub built_actions : List ActionName
-built_actions = DumpTlpdb ∷ Setting ∷ []
-
--- whether an action begins a session of its own, and so isn't known in a session's line
-abbrev pub is_session : ActionName → Bool
-is_session Edit = true
-is_session Shell = true
-is_session _ = false
-
--- the actions that are on in a session's line
-abbrev pub session_actions : List ActionName
-session_actions = filter (λ action. not (is_session action)) built_actions
 
 -- the action of a word, where some are on
 abbrev pub action_named_among : List ActionName → List ℕ → Option ActionName

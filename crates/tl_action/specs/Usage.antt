@@ -5,7 +5,7 @@ use Rattle.tl_action.specs.declared.table.OptionName.{OptionName}
 use Rattle.tl_action.specs.declared.table.OptionName.TheVariants as options
 use Rattle.tl_action.specs.declared.action_name.ActionName.{ActionName}
 use Rattle.tl_action.specs.declared.action_name.ActionName.TheVariants.{DumpTlpdb, Info, Search, Candidates, Check, Install, Update, Remove, Backup, Restore, Setting, Pinning, Expand, Edit, Build, Mirror, Lsr, Which, Shell, GenerateMaster}
-use Rattle.tl_action.specs.Table.{option_text, action_text, is_own, needs_local, known_options, built_actions}
+use Rattle.tl_action.specs.Table.{option_text, action_text, is_own, needs_local, known_options}
 
 -- what stands for an option's value
 abbrev pub value_text : OptionName → List ℕ
@@ -66,9 +66,9 @@ abbrev pub action_usage : ActionName → List ℕ
 action_usage action = codes "  " ++ action_text action ++ flat_map (option_usage action) (known_options false)
     ++ operands_text action ++ codes "\n      " ++ effect_text action ++ codes "\n"
 
--- how the program is called: each action that is on, and the options that go with every action
-abbrev pub usage_text : List ℕ
-usage_text = codes "Usage: texlive ROOT ACTION [OPTION..] [OPERAND..]\n\nActions:\n" ++ flat_map action_usage built_actions
+-- how the program is called, where some actions are on: each of them, and the options that go with every action
+abbrev pub usage_text : List ActionName → List ℕ
+usage_text on = codes "Usage: texlive ROOT ACTION [OPTION..] [OPERAND..]\n\nActions:\n" ++ flat_map action_usage on
     ++ codes "\nOptions of every action:\n"
     ++ codes "  -repository=[TAG=]DIR\n      A repository's folder; the tag is main where none is given.\n"
     ++ codes "  -workers=N\n      How many workers, 1 to 64; 4 where it isn't given.\n"

@@ -31,12 +31,6 @@ pub enum ActionName {
     GenerateMaster,
 }
 
-/// The actions that are built.
-pub const BUILT: [ActionName; 2] = [ActionName::DumpTlpdb, ActionName::Setting];
-
-/// Those that are on in a session's line: all that don't begin a session of their own.
-pub const BUILT_IN_SESSION: [ActionName; 2] = [ActionName::DumpTlpdb, ActionName::Setting];
-
 impl ActionName {
     pub(crate) fn text(self) -> &'static str
         ensures { result.now ≡ action_text self }

@@ -4,7 +4,7 @@ ghost use Rattle.std.specs.List.{flat_map};
 ghost use Rattle.tl_action.specs.Table.{known_options};
 ghost use Rattle.tl_action.specs.Usage.{option_usage, action_usage, usage_text};
 
-use crate::action_name::{ActionName, BUILT};
+use crate::action_name::ActionName;
 use crate::table::{OPTIONS, OptionName};
 use std::alloc::{AllocError, Global};
 
@@ -67,16 +67,16 @@ fn push_actions(text: &mut String, actions: &[ActionName]) -> Result<(), AllocEr
     Ok(())
 }
 
-/// How the program is called: each action that is on, with its operands, its options and a line of what it does, and
+/// How the program is called, where some actions are on: each of them, with its operands, its options and a line of what it does, and
 /// the options that go with every action.
-pub fn usage(alloc: Global) -> Result<String, AllocError>
-    ensures { IfOk result (λ text. string_bytes text ≡ usage_text) }
+pub fn usage(alloc: Global, on: &[ActionName]) -> Result<String, AllocError>
+    ensures { IfOk result (λ text. string_bytes text ≡ usage_text on.now) }
 {
     let mut text = String::from_str(
         alloc,
         "Usage: texlive ROOT ACTION [OPTION..] [OPERAND..]\n\nActions:\n",
     )?;
-    push_actions(&mut text, &BUILT)?;
+    push_actions(&mut text, on)?;
     text.push_str("\nOptions of every action:\n")?;
     text.push_str(
         "  -repository=[TAG=]DIR\n      A repository's folder; the tag is main where none is given.\n",

@@ -9,7 +9,7 @@ mod help;
 mod lists;
 mod table;
 
-pub use action_name::{ActionName, BUILT, BUILT_IN_SESSION};
+pub use action_name::ActionName;
 pub use command::{Action, Command, PinAction, Repositories, Repository};
 pub use expected::Expected;
 pub use form::{Form, PinWord, number_within};

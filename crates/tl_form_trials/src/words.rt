@@ -1,8 +1,11 @@
 //! The words of a command line and of a session's line.
 use std::alloc::{AllocError, Global};
 use std::test::Fail;
+use tl_action::ActionName;
 use tl_text::QuoteError;
 use tl_words::{Action, Command, Repository, read_shell_words, read_words, split_line, usage};
+
+const ON: [ActionName; 2] = [ActionName::DumpTlpdb, ActionName::Setting];
 
 fn is(repository: &Repository, tag: &str, folder: &[u8]) -> bool {
     repository.tag.text() == tag && repository.folder.as_slice() == folder
@@ -44,9 +47,9 @@ fn is_read(alloc: Global, line: &str, in_session: bool) -> Result<bool, AllocErr
         return Err(AllocError);
     };
     let read = if in_session {
-        read_shell_words(alloc, &words)
+        read_shell_words(alloc, &ON, &words)
     } else {
-        read_words(alloc, &words)
+        read_words(alloc, &ON, &words)
     };
     match read {
         Ok(command) => Ok(if in_session {
@@ -76,7 +79,7 @@ fn a_quote_without_its_partner_has_a_place(rt: HostRuntime) {
 
 #[test]
 fn the_usage_has_the_words_of_each_action(rt: HostRuntime) -> Result<(), Fail> {
-    let text = usage(rt.alloc())?;
+    let text = usage(rt.alloc(), &ON)?;
     for word in ["dump-tlpdb", "-local", "option"] {
         assert!(rt; text.as_str().contains(word), "{word}");
     }

@@ -11,7 +11,7 @@ use Rattle.tl_words.specs.Settings.{has_option}
 use Rattle.tl_action.specs.Table.{action_text, action_named_among, is_on}
 use Rattle.tl_words.specs.Parts.{Part}
 use Rattle.tl_words.specs.Faults.{plains}
-use Rattle.tl_words.specs.Commands.{first_action_among, later_words, unplaced, action_with, action_of, IsCommandAmong}
+use Rattle.tl_words.specs.Commands.{first_action, later_words, unplaced, action_with, action_of, IsCommandOf}
 use Rattle.tl_action.specs.Actions.{action_name}
 
 same_text : (text : List ℕ) → bytes_eq text text ≡ true
@@ -70,12 +70,12 @@ found_on on all action word (Some name) named has =
 
 -- the action of a command is on
 action_on : (on : List ActionName) (all : List Part) (action : Action) (words : List (ℕ × List ℕ))
-    → option_map (action_of all) (first_action_among on words) ≡ Some action → is_on on (action_name action) ≡ true
+    → option_map (action_of all) (first_action on words) ≡ Some action → is_on on (action_name action) ≡ true
 action_on on all action [] has = absurd (cc)
 action_on on all action (first ∷ others) has = found_on on all action first.1 (action_named_among on first.1) refl has
 
 -- so is that of a command that was read
 pub read_on : (on : List ActionName) (all : List Part) (result : Result Command WordsError)
-    → IfOk result (IsCommandAmong on all) → IfOk result (λ command. is_on on (action_name command.action) ≡ true)
+    → IfOk result (IsCommandOf on all) → IfOk result (λ command. is_on on (action_name command.action) ≡ true)
 read_on on all (Ok command) is = action_on on all command.action (plains all) is.action
 read_on on all (Err error) is = tt

@@ -16,20 +16,16 @@ use Rattle.tl_action.specs.declared.command.PinAction.TheVariants.{Show, Add, Re
 use Rattle.tl_action.specs.declared.command.Action.{Action}
 use Rattle.tl_action.specs.declared.command.Action.TheVariants as actions
 use Rattle.tl_action.specs.declared.command.Command.{Command}
-use Rattle.tl_action.specs.Table.{built_actions, session_actions, action_named_among}
+use Rattle.tl_action.specs.Table.{action_named_among}
 use Rattle.tl_words.specs.Parts.{Part}
 use Rattle.tl_action.specs.Forms.{is_number_within, pin_word}
 use Rattle.tl_words.specs.Settings.{repositories_of, workers_of, user_of, has_option}
 use Rattle.tl_words.specs.Faults.{plains}
 
 -- the action that the first word which is no option asks for, where some actions are on
-abbrev pub first_action_among : List ActionName → List (ℕ × List ℕ) → Option ActionName
-first_action_among on [] = None
-first_action_among on (first ∷ operands) = action_named_among on first.1
-
--- the action that the first word which is no option asks for
-abbrev pub first_action : List (ℕ × List ℕ) → Option ActionName
-first_action words = first_action_among built_actions words
+abbrev pub first_action : List ActionName → List (ℕ × List ℕ) → Option ActionName
+first_action on [] = None
+first_action on (first ∷ operands) = action_named_among on first.1
 
 -- some words without their places
 abbrev pub unplaced : List (ℕ × List ℕ) → List (List ℕ)
@@ -110,20 +106,12 @@ action_of all action = action_with (λ option. has_option option all) (later_wor
 
 -- what a command says of some parts, where some actions are on: the repositories in order, the workers, 4 where none are given,
 -- the action with its options and operands, the folder of the user's tree, and whether formats are made
-pub record IsCommandAmong (on : List ActionName) (all : List Part) (command : Command) : Type 0 where
+pub record IsCommandOf (on : List ActionName) (all : List Part) (command : Command) : Type 0 where
   pub repositories : command.repositories ≡ repositories_of all
   pub workers : command.workers ≡ workers_of 4 all
-  pub action : option_map (action_of all) (first_action_among on (plains all)) ≡ Some command.action
+  pub action : option_map (action_of all) (first_action on (plains all)) ≡ Some command.action
   pub user : command.user ≡ user_of None all
   pub formats : command.formats ≡ has_option options.Formats all
-
--- what a command says of the parts of the program's words
-abbrev pub IsCommandOf : List Part → Command → Type 0
-IsCommandOf all command = IsCommandAmong built_actions all command
-
--- what a command says of the parts of the words of a session's line
-abbrev pub IsSessionCommandOf : List Part → Command → Type 0
-IsSessionCommandOf all command = IsCommandAmong session_actions all command
 
 -- the first word is the root
 abbrev pub HasRoot : List (List ℕ) → Command → Type 0

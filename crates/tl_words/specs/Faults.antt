@@ -5,7 +5,7 @@ use Rattle.tl_words.specs.declared.faults.Fault.{Fault}
 use Rattle.tl_action.specs.declared.table.OptionName.{OptionName}
 use Rattle.tl_action.specs.declared.table.OptionName.TheVariants.{Usertree, Usermode, Local, All}
 use Rattle.tl_action.specs.declared.action_name.ActionName.{ActionName}
-use Rattle.tl_action.specs.Table.{built_actions, session_actions, action_named_among, goes_with, is_unfit_for_users, is_for_users, needs_local, operands_of, is_served}
+use Rattle.tl_action.specs.Table.{action_named_among, goes_with, is_unfit_for_users, is_for_users, needs_local, operands_of, is_served}
 use Rattle.tl_words.specs.Parts.{Part, given, plain, parts}
 use Rattle.tl_words.specs.Order.{fault, or_else, earlier}
 use Rattle.tl_words.specs.Settings.{options_fault, repositories_of, has_option}
@@ -80,22 +80,14 @@ program_parts [] = []
 program_parts (root ∷ words) = parts false None false 1 words
 
 -- the first fault of the program's words, where some actions are on: there is no root, or one of the command
-abbrev pub words_fault_among : List ActionName → List (List ℕ) → Option Fault
-words_fault_among on [] = Some (fault kinds.Root 0)
-words_fault_among on (root ∷ words) = command_fault on false (root ∷ words) (program_parts (root ∷ words))
-
--- the first fault of the program's words
-abbrev pub words_fault : List (List ℕ) → Option Fault
-words_fault words = words_fault_among built_actions words
+abbrev pub words_fault : List ActionName → List (List ℕ) → Option Fault
+words_fault on [] = Some (fault kinds.Root 0)
+words_fault on (root ∷ words) = command_fault on false (root ∷ words) (program_parts (root ∷ words))
 
 -- the parts of the words of a session's line
 abbrev pub session_parts : List (List ℕ) → List Part
 session_parts words = parts true None false 0 words
 
 -- the first fault of the words of a session's line, where some actions are on
-abbrev pub session_fault_among : List ActionName → List (List ℕ) → Option Fault
-session_fault_among on words = command_fault on true words (session_parts words)
-
--- the first fault of the words of a session's line
-abbrev pub session_fault : List (List ℕ) → Option Fault
-session_fault words = session_fault_among session_actions words
+abbrev pub session_fault : List ActionName → List (List ℕ) → Option Fault
+session_fault on words = command_fault on true words (session_parts words)

@@ -2,9 +2,9 @@
 ghost use Rattle.std.specs.Prelude.{◌≡◌, ◌≤◌, [], Some, None, true, false, length, IfOk, IfErr, OnOk, option_map};
 ghost use Rattle.tl_words.specs.Order.{earlier};
 ghost use Rattle.tl_words.specs.Settings.{options_fault, repositories_of, workers_of, user_of};
-ghost use Rattle.tl_words.specs.Faults.{size_fault, action_fault, command_fault, plains, program_parts, session_parts, words_fault_among, words_fault, session_fault_among, session_fault};
-ghost use Rattle.tl_words.specs.Commands.{first_action_among, action_of, IsCommandAmong, IsCommandOf, IsSessionCommandOf, HasRoot};
-ghost use Rattle.tl_action.specs.Actions.{IsBuilt, IsBuiltForSessions};
+ghost use Rattle.tl_words.specs.Faults.{size_fault, action_fault, command_fault, plains, program_parts, session_parts, words_fault, session_fault};
+ghost use Rattle.tl_words.specs.Commands.{first_action, action_of, IsCommandOf, HasRoot};
+ghost use Rattle.tl_action.specs.Actions.{IsOn};
 ghost use Rattle.tl_action.specs.Texts.{texts};
 ghost use Rattle.tl_words.specs.Inside.{parts_left};
 ghost use Rattle.tl_words.specs.Errors.{IsErrorOf, IsReadError};
@@ -17,9 +17,7 @@ use crate::plains::PlainsIter;
 use crate::settings::{Settings, read_options};
 use crate::values::read_action;
 use std::alloc::Global;
-use tl_action::{
-    Action, ActionName, BUILT, BUILT_IN_SESSION, Bytes, Command, OptionName, Repositories,
-};
+use tl_action::{Action, ActionName, Bytes, Command, OptionName, Repositories};
 
 fn refused(fault: Fault) -> WordsError
     requires { fault.at ≤ 4096 }
@@ -62,7 +60,7 @@ fn read_asked(
     requires { count ≡ length (repositories_of (parts_left parts)) }
     ensures none { OnOk result (action_fault on.now in_session end (parts_left parts.entry) (plains (parts_left parts.entry)) ≡ None) }
     ensures action { IfOk result (λ action. option_map (action_of (parts_left parts.entry))
-        (first_action_among on.now (plains (parts_left parts.entry))) ≡ Some action) }
+        (first_action on.now (plains (parts_left parts.entry))) ≡ Some action) }
     ensures fault { IfErr result (IsReadError (action_fault on.now in_session end (parts_left parts.entry) (plains (parts_left parts.entry)))) }
 {
     let mut operands = PlainsIter::of(parts);
@@ -99,7 +97,7 @@ fn command(
     requires { AreWithin (texts words.now) (parts_left parts) }
     ensures none { OnOk result (command_fault on.now in_session (texts words.now) (parts_left parts.entry) ≡ None) }
     ensures root { IfOk result (λ command. command.root ≡ root) }
-    ensures command { IfOk result (IsCommandAmong on.now (parts_left parts.entry)) }
+    ensures command { IfOk result (IsCommandOf on.now (parts_left parts.entry)) }
     ensures fault { IfErr result (IsErrorOf (command_fault on.now in_session (texts words.now) (parts_left parts.entry))) }
 {
     let settings = match settings(alloc, words, parts) {
@@ -122,16 +120,17 @@ fn command(
     }
 }
 
-// Reads the program's words, where some actions are on.
-pub(crate) fn read_words_among(
+/// Reads the program's words, of which the first is the root, where some actions are on. `BadWords` is their first fault.
+pub fn read_words(
     alloc: Global,
     on: &[ActionName],
     words: &[Vec<u8>],
 ) -> Result<Command, WordsError>
-    ensures none { OnOk result (words_fault_among on.now (texts words.now) ≡ None) }
+    ensures none { OnOk result (words_fault on.now (texts words.now) ≡ None) }
     ensures root { IfOk result (HasRoot (texts words.now)) }
-    ensures command { IfOk result (IsCommandAmong on.now (program_parts (texts words.now))) }
-    ensures fault { IfErr result (IsErrorOf (words_fault_among on.now (texts words.now))) }
+    ensures command { IfOk result (IsCommandOf on.now (program_parts (texts words.now))) }
+    ensures on { IfOk result (λ command. IsOn on.now command.action) }
+    ensures fault { IfErr result (IsErrorOf (words_fault on.now (texts words.now))) }
 {
     let Some(root) = words.first() else {
         return Err(WordsError::BadWords {
@@ -152,16 +151,18 @@ pub(crate) fn read_words_among(
     }
 }
 
-// Reads the words of a session's line, where some actions are on.
-pub(crate) fn read_shell_words_among(
+/// Reads the words of a session's line, which have no root and no repositories, where some actions are on. `BadWords` is their first
+/// fault.
+pub fn read_shell_words(
     alloc: Global,
     on: &[ActionName],
     words: &[Vec<u8>],
 ) -> Result<Command, WordsError>
-    ensures none { OnOk result (session_fault_among on.now (texts words.now) ≡ None) }
+    ensures none { OnOk result (session_fault on.now (texts words.now) ≡ None) }
     ensures root { IfOk result (λ command. command.root ≡ []) }
-    ensures command { IfOk result (IsCommandAmong on.now (session_parts (texts words.now))) }
-    ensures fault { IfErr result (IsErrorOf (session_fault_among on.now (texts words.now))) }
+    ensures command { IfOk result (IsCommandOf on.now (session_parts (texts words.now))) }
+    ensures on { IfOk result (λ command. IsOn on.now command.action) }
+    ensures fault { IfErr result (IsErrorOf (session_fault on.now (texts words.now))) }
 {
     command(
         alloc,
@@ -171,26 +172,4 @@ pub(crate) fn read_shell_words_among(
         words,
         PartsIter::of_session(words),
     )
-}
-
-/// Reads the program's words, of which the first is the root. `BadWords` is their first fault.
-pub fn read_words(alloc: Global, words: &[Vec<u8>]) -> Result<Command, WordsError>
-    ensures none { OnOk result (words_fault (texts words.now) ≡ None) }
-    ensures root { IfOk result (HasRoot (texts words.now)) }
-    ensures command { IfOk result (IsCommandOf (program_parts (texts words.now))) }
-    ensures on { IfOk result (λ command. IsBuilt command.action) }
-    ensures fault { IfErr result (IsErrorOf (words_fault (texts words.now))) }
-{
-    read_words_among(alloc, &BUILT, words)
-}
-
-/// Reads the words of a session's line, which have no root and no repositories. `BadWords` is their first fault.
-pub fn read_shell_words(alloc: Global, words: &[Vec<u8>]) -> Result<Command, WordsError>
-    ensures none { OnOk result (session_fault (texts words.now) ≡ None) }
-    ensures root { IfOk result (λ command. command.root ≡ []) }
-    ensures command { IfOk result (IsSessionCommandOf (session_parts (texts words.now))) }
-    ensures on { IfOk result (λ command. IsBuiltForSessions command.action) }
-    ensures fault { IfErr result (IsErrorOf (session_fault (texts words.now))) }
-{
-    read_shell_words_among(alloc, &BUILT_IN_SESSION, words)
 }

@@ -1,9 +1,13 @@
-use Rattle.tl_action.specs.Table.{built_actions}
-use Rattle.tl_words.specs.Faults.{program_parts}
+use Rattle.std.proofs.Common.{sym, subst, List}
+use Rattle.tl_words.specs.Parts.{Part}
 use Rattle.tl_action.specs.Texts.{texts}
+use Rattle.tl_words.specs.Places.{AreWithin}
 use Rattle.tl_words.proofs.Named.{read_on}
+use Rattle.tl_words.proofs.Places.{program-within}
 use Rattle.tl_words.proofs.read.read_words.Goals as goal
 
-pub returns-clause-on : goal.returns-clause-on
-returns-clause-on c =
-    read_on built_actions (program_parts (texts c.args.words.now)) c.read_words_among.result c.read_words_among.ensures.command
+pub command-requires : goal.command-requires
+command-requires c = subst (λ (all : List Part). AreWithin (texts c.args.words.now) all) (sym c.of_program.ensures) (program-within (texts c.args.words.now))
+
+pub returns-in-Ok-clause-on : goal.returns-in-Ok-clause-on
+returns-in-Ok-clause-on c = read_on c.args.on.now _ c.command.result c.command.ensures.command
