@@ -1,10 +1,10 @@
 -- Calls that read a database, and steps, as parts of a command.
-use Rattle.std.proofs.Common.{◌≡◌, ◌≤◌, ◌+◌, ℕ, Bool, true, List, [], ◌∷◌, Option, Some, Result, Ok, Err, refl, sym, ◌∙◌, ap, subst, arith}
+use Rattle.std.proofs.Common.{◌≡◌, ◌≤◌, ◌+◌, ℕ, Bool, true, List, [], ◌∷◌, Option, Some, Result, Err, sym, ◌∙◌, ap, subst, arith}
 use Rattle.std.specs.Option.{unwrap_or}
 use Rattle.tl_model.specs.Volume.{Volume}
 use Rattle.tl_model.specs.Causes.{Rose}
 use Rattle.tl_model.specs.Seen.{Seen, Told, Quiet}
-use Rattle.tl_model.specs.Trace.{Event, Step, steps_of, Trace, Cut}
+use Rattle.tl_model.specs.Trace.{Step, Trace, Cut}
 use Rattle.tl_model.specs.Joins.{trace_start, trace_quiet, paused_cut, cut_longer}
 use Rattle.tl_journal_text.specs.Stand.{stand, tree_of}
 use Rattle.tl_entry.specs.declared.object.Object.{Object}

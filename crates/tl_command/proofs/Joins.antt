@@ -1,5 +1,5 @@
 -- How the parts of a command make the whole.
-use Rattle.std.proofs.Common.{◌≡◌, ◌≤◌, ◌+◌, ◌*◌, ℕ, Bool, List, [], ◌∷◌, ◌++◌, Result, Ok, Err, Some, refl, sym, ◌∙◌, ap, subst, arith}
+use Rattle.std.proofs.Common.{◌≡◌, ◌≤◌, ◌+◌, ◌*◌, ℕ, Bool, List, [], ◌∷◌, ◌++◌, Result, Ok, Err, Some, IsTrue, sym, ◌∙◌, ap, subst, arith}
 use Rattle.tl_model.specs.Volume.{Volume}
 use Rattle.tl_model.specs.Causes.{Rose}
 use Rattle.tl_model.specs.Seen.{Seen, Told, Quiet}
@@ -168,6 +168,36 @@ performs_given_up tells seen first last before after command quiet = record {
   later = quiet.later;
   cause = tt;
   words = λ none. none;
+}
+
+-- a command that stopped at rest at a fault of the repositories, before its first event
+pub performs_stopped : {T : Type 0} (tells : Bool) (seen : T → Seen) (first last : Seen) (before after : Faults) (command : Volume → Run) → Rose before.shelf after.shelf → Advances tells (λ _. []) first last
+    → Performs tells seen command 0 first before after ShelfFault (Ok last)
+performs_stopped tells seen first last before after command rose quiet = record {
+  run = λ t tree stood. nothing_paused first last tree (command tree).events (quiet.trace t tree stood);
+  syncs = λ t tree stood. omega (arith, quiet.syncs t tree stood);
+  later = quiet.later;
+  cause = rose;
+  words = λ none. none;
+}
+
+-- a command that is told by fewer devices than tell it
+pub performs_fewer : {T : Type 0} (fewer more : Bool) → (IsTrue fewer → IsTrue more) → (seen : T → Seen) (spare : ℕ) (first : Seen) (before after : Faults) (ending : Ending) (state : Result Seen T) (command : Volume → Run)
+    → Performs more seen command spare first before after ending state → Performs fewer seen command spare first before after ending state
+performs_fewer fewer more told seen spare first before after ending state command performs = record {
+  run = λ t. performs.run (told t);
+  syncs = λ t. performs.syncs (told t);
+  later = performs.later;
+  cause = performs.cause;
+  words = performs.words;
+}
+
+-- events that are told by fewer devices than tell them
+pub advances_fewer : (fewer more : Bool) → (IsTrue fewer → IsTrue more) → (events : Volume → List Event) (first last : Seen) → Advances more events first last → Advances fewer events first last
+advances_fewer fewer more told events first last advances = record {
+  trace = λ t. advances.trace (told t);
+  syncs = λ t. advances.syncs (told t);
+  later = advances.later;
 }
 
 -- a command that was cut off by a fault of the host, before its first event or within a run without events

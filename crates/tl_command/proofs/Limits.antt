@@ -1,7 +1,6 @@
 -- Runs within their limits, and past them.
 use Rattle.std.proofs.Common.{◌≡◌, ◌≤◌, ◌<◌, ℕ, Bool, true, false, cond, nat_lt, List, length, Result, Ok, Err, ◌∙◌, sym, ap, inl, inr, refl, arith}
 use Rattle.std.proofs.lemmas.Bool.{cases_Bool, lt-ltb, ltb-true}
-use Rattle.tl_model.specs.Trace.{Event}
 use Rattle.tl_kind.specs.Quantities.{limit_of}
 use Rattle.tl_kind.specs.declared.quantity.What.{What}
 use Rattle.tl_kind.specs.declared.quantity.What.TheVariants as what

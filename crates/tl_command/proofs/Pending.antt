@@ -1,5 +1,5 @@
 -- A volume that stands for no tree has no records to carry out.
-use Rattle.std.proofs.Common.{◌≡◌, ℕ, List, [], Option, Some, None, refl, ap, subst}
+use Rattle.std.proofs.Common.{◌≡◌, List, [], Option, Some, None, refl, subst}
 use Rattle.std.specs.Option.{option_map, unwrap_or}
 use Rattle.tl_model.specs.Volume.{Name, Volume}
 use Rattle.tl_journal_text.specs.declared.slot.Slot.{Slot}

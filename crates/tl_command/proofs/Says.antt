@@ -1,11 +1,11 @@
 -- A text that is said by a volume at rest, and a recovery, as parts of a command.
-use Rattle.std.proofs.Common.{◌≡◌, ◌≤◌, ◌+◌, ℕ, Bool, true, false, List, [], ◌∷◌, Result, Ok, Err, Some, refl, sym, ◌∙◌, ap, subst, arith}
+use Rattle.std.proofs.Common.{◌≡◌, ◌≤◌, ℕ, Bool, true, false, List, [], ◌∷◌, Result, Ok, Err, Some, refl, sym, ◌∙◌, ap, subst, arith}
 use Rattle.tl_model.specs.Volume.{Volume}
 use Rattle.tl_model.specs.Acks.{IsPlain}
 use Rattle.tl_model.specs.Causes.{Rose}
 use Rattle.tl_model.specs.Seen.{Seen, Told, Says}
 use Rattle.tl_model.specs.Trace.{Event, Text, Trace, Cut}
-use Rattle.tl_model.specs.Joins.{trace_start, trace_text, cut_text}
+use Rattle.tl_model.specs.Joins.{trace_text, cut_text}
 use Rattle.tl_journal_text.specs.Stand.{stand, tree_of}
 use Rattle.tl_journal.specs.Spent.{Resumes}
 use Rattle.tl_tree.specs.Traces.{resumed_trace, resumed_is_cut}

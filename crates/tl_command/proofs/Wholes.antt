@@ -1,14 +1,14 @@
 -- How a whole call is made of its parts.
-use Rattle.std.proofs.Common.{◌≡◌, ◌≤◌, ◌+◌, ◌*◌, ℕ, zero, suc, Bool, true, false, List, [], ◌∷◌, ◌++◌, take, drop, Option, Some, None, Result, Ok, Err, refl, sym, ◌∙◌, ap, subst, inl, inr, arith, append_assoc}
+use Rattle.std.proofs.Common.{◌≡◌, ◌≤◌, ◌+◌, ◌*◌, ℕ, zero, suc, Bool, false, List, [], ◌∷◌, ◌++◌, take, drop, Some, None, Result, Ok, IsTrue, refl, sym, ◌∙◌, ap, subst, inl, inr, arith, append_assoc}
 use Rattle.std.specs.List.{AllByRecursion}
 use Rattle.std.specs.FinSet as set
 use Rattle.std.proofs.lemmas.List.{append-nil, append_cancel_left, take-append-drop}
 use Rattle.tl_model.specs.Volume.{Name, Volume, at, same_volume}
-use Rattle.tl_model.specs.Seen.{Moment, Stretch, Seen, Told, IsPicture, Leaves, Since, Says, Could, at_rest, saying, moment}
+use Rattle.tl_model.specs.Seen.{Stretch, Seen, Told, Leaves, Since, Says, Could, at_rest, moment}
 use Rattle.tl_model.specs.Pictures.{since_start, since_join, since_weaker, since_could, after_say}
-use Rattle.tl_model.specs.Trace.{Event, Text, said_by, steps_of, tree_after, IsFront, IsStop, IsCut, Pictures, Trace, Cut, Paused}
-use Rattle.tl_model.specs.Joins.{tree_at-zero, trace_start, trace_text, cut_text, trace_join, cut_join, paused_rest, paused_rest_cut}
-use Rattle.tl_journal_text.specs.Stand.{stand, tree_of, Stays, IsResumed}
+use Rattle.tl_model.specs.Trace.{Event, Text, said_by, steps_of, tree_after, IsFront, IsCut, Pictures, Cut}
+use Rattle.tl_model.specs.Joins.{tree_at-zero, paused_rest, paused_rest_cut}
+use Rattle.tl_journal_text.specs.Stand.{stand, Stays, IsResumed}
 use Rattle.tl_journal.specs.States.{IsPending}
 use Rattle.tl_journal.specs.Spent.{Resumes}
 use Rattle.tl_journal.specs.Touching.{Spares, TouchesOnly}
@@ -17,7 +17,7 @@ use Rattle.tl_command.specs.declared.ending.Ending.{Ending}
 use Rattle.tl_command.specs.declared.ending.Ending.TheVariants.{Done, Refused, HostFault, ShelfFault, InputFault, NoMemory}
 use Rattle.tl_refusal.specs.declared.refusal.Refusal.{Refusal}
 use Rattle.tl_command.specs.Endings.{Faults, IsCarried, IsCaused, IsOfWords, IsWordless, spare_syncs}
-use Rattle.tl_command.specs.Runs.{Run, refused}
+use Rattle.tl_command.specs.Runs.{Run}
 use Rattle.tl_command.specs.Performs.{IsRested, IsFailed, IsActed, last_of, Performs}
 use Rattle.tl_command.specs.Whole.{IsRun, IsStopped, Runs, IsSaid, IsLeftAt, OnlySays, IsRefusalOr, Begins}
 use Rattle.tl_command.proofs.Joins.{acted_join, caused_join}
@@ -274,3 +274,12 @@ pub wordless_refusal : (refusal : Refusal) (ending : Ending) → (IsOfWords refu
 wordless_refusal refusal ending other (inl is) wordless = other (subst IsWordless is wordless)
 wordless_refusal refusal ending other (inr (inl is)) wordless = subst IsWordless is wordless
 wordless_refusal refusal ending other (inr (inr is)) wordless = subst IsWordless is wordless
+
+-- a volume that was recovered, told by fewer devices than tell it
+pub begins_fewer : (fewer more : Bool) → (IsTrue fewer → IsTrue more) → (first last : Seen) → Begins more first last → Begins fewer first last
+begins_fewer fewer more told first last begins = record {
+  stood = λ t. begins.stood (told t);
+  trace = λ t. begins.trace (told t);
+  syncs = λ t. begins.syncs (told t);
+  later = begins.later;
+}

@@ -1,6 +1,6 @@
 -- The run of a command: what it says, the steps that it makes, and how it ends.
-use Rattle.std.specs.Prelude.{ℕ, nat_lt, if◌then◌else◌, List, [], ◌∷◌, ◌++◌, length, Result, Ok, Err}
-use Rattle.tl_model.specs.Volume.{Volume}
+use Rattle.std.specs.Prelude.{ℕ, nat_lt, if◌then◌else◌, List, [], ◌∷◌, ◌++◌, length, Option, Some, None, Result, Ok, Err}
+use Rattle.tl_model.specs.Volume.{Name, Volume, at}
 use Rattle.tl_model.specs.Acks.{IsLabel}
 use Rattle.tl_model.specs.Trace.{Event, Text, Step}
 use Rattle.tl_kind.specs.Quantities.{limit_of}
@@ -42,6 +42,15 @@ refused refusal = record { events = Text (refusal_line refusal) ∷ []; ending =
 -- a run of which a quantity is so large: refused where it passes its limit
 abbrev pub limited : What → ℕ → Run → Run
 limited what count run = if nat_lt (limit_of what) count then refused (TooLarge what (limit_of what)) else run
+
+-- a run over the bytes that a file may have: refused where they are more than the quantity may have
+abbrev pub over_bytes : What → (Option (List ℕ) → Run) → Option (List ℕ) → Run
+over_bytes what go None = go None
+over_bytes what go (Some bytes) = limited what (length bytes) (go (Some bytes))
+
+-- a run over what a file of a tree holds
+abbrev pub over_file : What → Name → (Option (List ℕ) → Run) → Volume → Run
+over_file what path go tree = over_bytes what go (at tree path)
 
 -- a run over what a database reads as, where it has no more entries than the limit
 abbrev pub over_entries : (List Object → Run) → Result (List Object) (ℕ × LineKind) → Run

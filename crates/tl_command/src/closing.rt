@@ -1,9 +1,10 @@
 //! What a command does last.
 ghost use Rattle.std.specs.Prelude.{◌≡◌};
 ghost use Rattle.tl_model.specs.Acks.{IsPlain};
+ghost use Rattle.tl_model.specs.Causes.{Rose};
 ghost use Rattle.tl_model.specs.Seen.{Told};
 ghost use Rattle.tl_model.specs.Volume.{Volume};
-ghost use Rattle.tl_command.specs.Endings.{IsOfWords, no_devices};
+ghost use Rattle.tl_command.specs.Endings.{Faults, IsOfWords, no_devices};
 ghost use Rattle.tl_command.specs.Performs.{Performs, last_of};
 ghost use Rattle.tl_command.specs.Runs.{Run, finished, saying, refused};
 
@@ -20,16 +21,14 @@ pub fn say<H: Host>(bytes: &[u8], session: Session<H>) -> Acted<H>
     requires { IsPlain bytes.now }
     ensures { Performs H.tells H.seen (λ _. saying bytes.now) 0 session no_devices no_devices result.ending result.state }
 {
-    let mut journal = session.journal;
-    journal.stands();
-    match journal.say(bytes) {
-        Ok(()) => Acted {
+    match session.say(bytes) {
+        Ok(session) => Acted {
             ending: Ending::Done,
-            state: Ok(Session { journal }),
+            state: Ok(session),
         },
-        Err(_) => Acted {
+        Err(host) => Acted {
             ending: Ending::HostFault,
-            state: Err(journal.into_host()),
+            state: Err(host),
         },
     }
 }
@@ -40,22 +39,20 @@ pub fn refuse<H: Host>(alloc: Global, refusal: Refusal, session: Session<H>) -> 
     ensures performs { Performs H.tells H.seen (λ _. refused refusal) 0 session no_devices no_devices result.ending result.state }
     ensures unsynced { Told H.tells ((last_of H.seen result.state).syncs ≡ session.syncs) }
 {
-    let mut journal = session.journal;
-    journal.stands();
     let Ok(line) = line_of(alloc, &refusal) else {
         return Acted {
             ending: Ending::NoMemory,
-            state: Ok(Session { journal }),
+            state: Ok(session),
         };
     };
-    match journal.say(line.as_bytes()) {
-        Ok(()) => Acted {
+    match session.say(line.as_bytes()) {
+        Ok(session) => Acted {
             ending: Ending::Refused(refusal),
-            state: Ok(Session { journal }),
+            state: Ok(session),
         },
-        Err(_) => Acted {
+        Err(host) => Acted {
             ending: Ending::HostFault,
-            state: Err(journal.into_host()),
+            state: Err(host),
         },
     }
 }
@@ -64,11 +61,9 @@ pub fn refuse<H: Host>(alloc: Global, refusal: Refusal, session: Session<H>) -> 
 pub fn finish<H: Host>(session: Session<H>) -> Acted<H>
     ensures { Performs H.tells H.seen (λ _. finished) 0 session no_devices no_devices result.ending result.state }
 {
-    let journal = session.journal;
-    journal.stands();
     Acted {
         ending: Ending::Done,
-        state: Ok(Session { journal }),
+        state: Ok(session),
     }
 }
 
@@ -76,11 +71,20 @@ pub fn finish<H: Host>(session: Session<H>) -> Acted<H>
 pub fn give_up<H: Host>(session: Session<H>) -> Acted<H>
     ensures { (command : Volume → Run) → Performs H.tells H.seen command 0 session no_devices no_devices result.ending result.state }
 {
-    let journal = session.journal;
-    journal.stands();
     Acted {
         ending: Ending::NoMemory,
-        state: Ok(Session { journal }),
+        state: Ok(session),
+    }
+}
+
+/// Stops at a fault of the repositories: of any run, nothing more is made. No memory.
+pub fn stop_at_shelf<H: Host>(session: Session<H>) -> Acted<H>
+    ensures { (command : Volume → Run) (before after : Faults) → Rose before.shelf after.shelf →
+        Performs H.tells H.seen command 0 session before after result.ending result.state }
+{
+    Acted {
+        ending: Ending::ShelfFault,
+        state: Ok(session),
     }
 }
 
@@ -94,7 +98,7 @@ pub(crate) fn give_up_spent<H: Host>(host: H) -> Acted<H>
             journal.stands();
             Acted {
                 ending: Ending::NoMemory,
-                state: Ok(Session { journal }),
+                state: Ok(Session::of_journal(journal)),
             }
         }
         Err(Lost { host, fault }) => match fault {
@@ -119,7 +123,7 @@ pub(crate) fn refuse_spent<H: Host>(alloc: Global, refusal: Refusal, host: H) ->
         Ok(recovered) => {
             let journal = recovered.journal;
             journal.stands();
-            refuse(alloc, refusal, Session { journal })
+            refuse(alloc, refusal, Session::of_journal(journal))
         }
         Err(Lost { host, fault }) => match fault {
             RecoverError::HostFault => Acted {

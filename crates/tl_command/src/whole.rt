@@ -46,7 +46,7 @@ pub fn begin<H: Host>(alloc: Global, host: H) -> Result<Session<H>, (Ending, H)>
         Ok(recovered) => {
             let journal = recovered.journal;
             journal.stands();
-            Ok(Session { journal })
+            Ok(Session::of_journal(journal))
         }
         Err(Lost { host, fault }) => match fault {
             RecoverError::HostFault => Err((Ending::HostFault, host)),
@@ -71,7 +71,7 @@ pub fn end<H: Host>(acted: Acted<H>) -> (Ending, H)
 {
     let Acted { ending, state } = acted;
     match state {
-        Ok(session) => match session.journal.rest() {
+        Ok(session) => match session.into_journal().rest() {
             Ok(clean) => (ending, clean.into_host()),
             Err(lost) => (Ending::HostFault, lost.host),
         },

@@ -1,13 +1,11 @@
 -- The texts of options, the names that a change of an entry writes, and the labels of the runs.
-use Rattle.std.proofs.Common.{◌≡◌, ◌≢◌, ◌==◌, ℕ, Bool, true, false, cond, not, ◌&&◌, ◌||◌, List, [], ◌∷◌, ◌++◌, Option, Some, None, Result, Ok, Err, refl, sym, subst, arith}
-use Rattle.std.specs.Prelude.{codes, AllPairs, All}
-use Rattle.std.specs.List.{list_any, join_with_byte}
+use Rattle.std.proofs.Common.{◌≡◌, ◌==◌, ℕ, Bool, true, false, cond, List, [], ◌∷◌, ◌++◌, Option, Some, None, Result, Ok, Err, refl, sym, ap, subst}
+use Rattle.std.specs.Prelude.{codes}
+use Rattle.std.specs.List.{join_with_byte}
 use Rattle.tl_model.specs.Trace.{Step}
 use Rattle.std.specs.Str.{bytes_eq}
-use Rattle.std.proofs.lemmas.Bool.Decides.{not_from_Decides}
 use Rattle.std.proofs.lemmas.Slice.Eq.{bytes_eq-Decides}
-use Rattle.std.proofs.lemmas.List.Elements.{All-nil, All-cons, All-append}
-use Rattle.std.proofs.lemmas.List.Kept.{AllPairs-cons}
+use Rattle.std.proofs.lemmas.List.Elements.{All-append}
 use Rattle.tl_model.specs.Lines.{IsLine}
 use Rattle.tl_model.specs.Acks.{IsLabel, IsPlain, acks, plain-line, plain-nil}
 use Rattle.tl_entry.specs.declared.object.Object.{Object}
@@ -15,7 +13,9 @@ use Rattle.tl_db.specs.Options.{option_name, option_named, entry_with, entry_set
 use Rattle.tl_db.specs.declared.options.TreeOption.{TreeOption}
 use Rattle.tl_db.specs.declared.options.TreeOption.TheVariants.{Autobackup, Platforms}
 use Rattle.tl_model.specs.Volume.{Volume}
-use Rattle.tl_tree.specs.Changes.{with_entry, changed, made, names_of, IsChange}
+use Rattle.tl_tree.specs.Changes.{with_entry, changed}
+use Rattle.tl_tree.specs.Conditions.{IsChange, has_later}
+use Rattle.tl_tree.proofs.Distinct.{once-cons, once-nil}
 use Rattle.tl_tree.specs.declared.change.Part.{Part}
 use Rattle.tl_tree.specs.declared.change.Part.TheVariants.{Entry}
 use Rattle.tl_db.specs.declared.options.OptionError.{OptionError}
@@ -24,35 +24,6 @@ use Rattle.tl_command.specs.Runs.{AreLabelled, finished, followed}
 use Rattle.tl_command.proofs.Limits.{labelled-leaving}
 use Rattle.tl_settings.specs.Settings.{option_label, show_run, set_run, option_run}
 use Rattle.tl_object.proofs.PlainLemmas.{line_tested}
-
-neither : (a b : Bool) → (a || b) ≡ false → (a ≡ false) × (b ≡ false)
-neither true b is = absurd (cc)
-neither false b is = (refl, is)
-
-both : (a b : Bool) → (a && b) ≡ true → (a ≡ true) × (b ≡ true)
-both true b is = (refl, is)
-both false b is = absurd (cc)
-
-opposite : (t : Bool) → not t ≡ true → t ≡ false
-opposite true none = absurd (cc)
-opposite false none = refl
-
-abbrev are_apart : List (List ℕ) → Bool
-are_apart [] = true
-are_apart (name ∷ names) = not (list_any (bytes_eq name) names) && are_apart names
-
-apart_from : (name : List ℕ) (others : List (List ℕ)) → list_any (bytes_eq name) others ≡ false → All (λ other. name ≢ other) others
-apart_from name [] none = All-nil (λ other. name ≢ other)
-apart_from name (other ∷ others) none =
-    let parts = neither (bytes_eq name other) (list_any (bytes_eq name) others) none in
-    All-cons (λ next. name ≢ next) other others (not_from_Decides (bytes_eq name other) (bytes_eq-Decides name other) parts.0) (apart_from name others parts.1)
-
--- names of which no two are the same, by a test that computes
-pub all_apart : (names : List (List ℕ)) → are_apart names ≡ true → AllPairs (λ a b. a ≢ b) names
-all_apart [] is = λ i j d before within. absurd (omega arith)
-all_apart (name ∷ names) is =
-    let parts = both (not (list_any (bytes_eq name) names)) (are_apart names) is in
-    AllPairs-cons (λ a b. a ≢ b) name names (apart_from name names (opposite _ parts.0)) (all_apart names parts.1)
 
 -- the label of an option is one acknowledged line
 pub label-option : (option : TreeOption) → IsLabel (option_label (option_name option))
@@ -87,14 +58,19 @@ label-setting name value db entry is = by (option_named name) refl is
     by None found is = absurd (cc)
     by (Some option) found is = subst (λ (n : List ℕ). IsLabel (option_label n)) (sym (named name option found)) (label-option option)
 
--- one entry that comes is a change
+-- one entry that comes is a change, all of whose bytes are there
 pub change-entry : (db : List Object) (parts : List Part) (entry : Object) (label : List ℕ) → parts ≡ Entry entry ∷ [] → IsLabel label → IsChange db parts label
 change-entry db parts entry label is is_label = subst (λ (ps : List Part). IsChange db ps label) (sym is) (record {
-  leaves = tt;
-  comes = tt;
-  apart = all_apart (names_of (made (with_entry entry db))) refl;
+  names = once-cons entry.name [] refl once-nil;
+  paths = once-nil;
+  puts = (tt, tt);
+  keeps = tt;
+  beside = tt;
   label = is_label;
 })
+
+pub entry-whole : (parts : List Part) (entry : Object) → parts ≡ Entry entry ∷ [] → has_later parts ≡ false
+entry-whole parts entry is = ap has_later is
 
 labelled-set : (name value : List ℕ) (tree : Volume) (db : List Object) (found : Result Object OptionError) → entry_with name value db ≡ found → AreLabelled (set_run name found tree db).events
 labelled-set name value tree db (Ok entry) is =

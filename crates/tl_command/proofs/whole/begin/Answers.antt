@@ -1,6 +1,6 @@
-use Rattle.std.proofs.Common.{ℕ, Option, Some, None, refl, sym, ap, subst, arith}
+use Rattle.std.proofs.Common.{ℕ, Option, refl, sym, ap, subst, arith}
 use Rattle.std.specs.Option.{unwrap_or}
-use Rattle.tl_model.specs.Seen.{Told}
+use Rattle.tl_model.specs.Seen.{Seen, Told}
 use Rattle.tl_model.specs.Joins.{cut_longer}
 use Rattle.tl_journal_text.specs.Stand.{stand}
 use Rattle.tl_journal.specs.Faults.{IsFault}
@@ -10,7 +10,7 @@ use Rattle.tl_refusal.specs.declared.refusal.Refusal.{Refusal}
 use Rattle.tl_refusal.specs.declared.refusal.Refusal.TheVariants.{BadJournal}
 use Rattle.tl_command.specs.declared.ending.Ending.TheVariants.{HostFault}
 use Rattle.tl_command.specs.Runs.{refused}
-use Rattle.tl_command.specs.Whole.{OnlySays, journal_place}
+use Rattle.tl_command.specs.Whole.{Begins, OnlySays, journal_place}
 use Rattle.tl_command.proofs.Joins.{caused_join}
 use Rattle.tl_command.proofs.Pending.{nothing_pending}
 use Rattle.tl_command.proofs.Says.{begins_resumed, cut_resumed}
@@ -20,7 +20,8 @@ use Rattle.tl_command.proofs.whole.begin.Goals as goal
 pub returns-in-Ok-clause-begun : goal.returns-in-Ok-clause-begun
 returns-in-Ok-clause-begun g c =
     let e = c.in-Ok.ensures in
-    begins_resumed g.H.Host.tells (g.H.Host.seen c.args.host) c.in-Ok.recovered.journal e.tree e.resumes e.cause.later
+    let first = g.H.Host.seen c.args.host in
+    subst (λ (s : Seen). Begins g.H.Host.tells first s) (sym c.of_journal.ensures) (begins_resumed g.H.Host.tells first c.in-Ok.recovered.journal e.tree e.resumes e.cause.later)
 
 pub returns-in-HostFault-clause-ended : goal.returns-in-HostFault-clause-ended
 returns-in-HostFault-clause-ended g c =

@@ -1,4 +1,4 @@
-use Rattle.std.proofs.Common.{◌≡◌, true, false, refl, sym, ◌∙◌, ap, subst, [], ◌∷◌, ◌++◌, List, ℕ, take, arith, rules}
+use Rattle.std.proofs.Common.{◌≡◌, true, false, refl, sym, ◌∙◌, ap, subst, ◌++◌, List, ℕ, take, arith, rules}
 use Rattle.std.proofs.lemmas.List.{append-nil}
 use Rattle.tl_model.specs.Seen.{Says}
 use Rattle.tl_model.specs.Joins.{trace_start, trace_text, cut_text}

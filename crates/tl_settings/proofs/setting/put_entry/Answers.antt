@@ -8,12 +8,15 @@ use Rattle.tl_command.specs.Performs.{Performs}
 use Rattle.tl_command.specs.Runs.{finished, stepping}
 use Rattle.tl_command.proofs.Joins.{performs_of, performs_stepped}
 use Rattle.tl_settings.specs.Settings.{option_label}
-use Rattle.tl_settings.proofs.Labels.{change-entry}
+use Rattle.tl_settings.proofs.Labels.{change-entry, entry-whole}
 use Rattle.tl_settings.proofs.setting.put_entry.Goals as goal
 
-pub step-requires : goal.step-requires
-step-requires g c = change-entry c.args.tree.db c.in-Ok.change.parts c.args.entry c.in-Ok.change.label c.in-Ok.ensures.parts
+pub step-requires-clause-change : goal.step-requires-clause-change
+step-requires-clause-change g c = change-entry c.args.tree.db c.in-Ok.change.parts c.args.entry c.in-Ok.change.label c.in-Ok.ensures.parts
     (subst (λ (l : List ℕ). IsLabel l) (sym c.in-Ok.ensures.label) c.requires)
+
+pub step-requires-clause-whole : goal.step-requires-clause-whole
+step-requires-clause-whole g c = entry-whole c.in-Ok.change.parts c.args.entry c.in-Ok.ensures.parts
 
 pub returns-in_default : goal.returns-in_default
 returns-in_default g c = performs_of _ _ _ _ _ _ _ c.of_tree.ensures (c.give_up.ensures _)
