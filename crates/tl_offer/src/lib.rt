@@ -1,0 +1,6 @@
+//! What a command reads of the pins of a tree and of repositories.
+#![tactic(auto)]
+
+mod pins;
+
+pub use pins::load_pins;
