@@ -1,0 +1,13 @@
+use Rattle.std.proofs.Common.{Result, length, drop}
+use Rattle.tl_model.specs.Seen.{Seen}
+use Rattle.tl_command.specs.declared.ending.Ending.{Ending}
+use Rattle.tl_command.specs.Endings.{no_devices}
+use Rattle.tl_command.specs.Performs.{Performs}
+use Rattle.tl_command.specs.Steps.{running}
+use Rattle.tl_packages.specs.Remove.{plan_step, numbered, at_end}
+use Rattle.tl_packages.proofs.plan.make_steps.Given as goal
+
+abbrev pub invariant-loop-at : goal.invariant-loop-at
+invariant-loop-at g l = (ending : Ending) (state : Result Seen _)
+    → Performs g.H.Host.tells g.H.Host.seen (λ t. running (plan_step (length l.steps)) (drop l.at (numbered 1 l.steps)) at_end l.tree.db t) 0 l.tree.seen no_devices no_devices ending state
+    → Performs g.H.Host.tells g.H.Host.seen (λ t. running (plan_step (length l.steps)) (numbered 1 l.steps) at_end l.fn.tree.db t) 0 l.fn.tree.seen no_devices no_devices ending state

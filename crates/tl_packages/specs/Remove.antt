@@ -1,0 +1,68 @@
+-- What `remove` says and does.
+use Rattle.std.specs.Prelude.{◌≡◌, ℕ, ◌+◌, codes, Bool, List, [], ◌∷◌, ◌++◌, length, map, Result, Ok, Err}
+use Rattle.std.specs.List.{flat_map}
+use Rattle.tl_model.specs.Volume.{Volume}
+use Rattle.tl_entry.specs.declared.object.Object.{Object}
+use Rattle.tl_tree.specs.Changes.{entries_after, changed}
+use Rattle.tl_tree.specs.declared.change.Part.{Part}
+use Rattle.tl_tree.specs.declared.change.Part.TheVariants as parts
+use Rattle.tl_plan.specs.Removal.{removal_of}
+use Rattle.tl_plan.specs.declared.planned.Planned.{Planned}
+use Rattle.tl_plan.specs.declared.planned.Planned.TheVariants.{Remove}
+use Rattle.tl_plan.specs.declared.error.PlanError.{PlanError}
+use Rattle.tl_plan.specs.declared.error.PlanError.TheVariants as plans
+use Rattle.tl_refusal.specs.declared.refusal.Refusal.TheVariants.{Protected, NotInstalled, Needed}
+use Rattle.tl_command.specs.Labels.{step_label}
+use Rattle.tl_command.specs.Runs.{Run, finished, refused, stepping}
+use Rattle.tl_command.specs.Steps.{running}
+
+-- what a part of a plan is called where its step is acknowledged
+abbrev pub change_text : Planned → List ℕ
+change_text (Remove name) = codes "remove " ++ name
+
+-- what a step of a plan is called: its parts, with a comma and a space between two
+abbrev pub changes_text : List Planned → List ℕ
+changes_text [] = []
+changes_text (part ∷ more) = change_text part ++ flat_map (λ next. codes ", " ++ change_text next) more
+
+-- one package leaves in a step, and nothing else is done
+abbrev pub RemovesOne : List Planned → Type 0
+RemovesOne step = (name : List ℕ) × (step ≡ Remove name ∷ [])
+
+-- what a part of a plan does to the tree
+abbrev pub part_of : Planned → Part
+part_of (Remove name) = parts.Remove name
+
+-- what a step of a plan does to the tree
+abbrev pub parts_of : List Planned → List Part
+parts_of step = map part_of step
+
+-- the run of a step of a plan, with its number, of so many, before what comes behind it
+abbrev pub plan_step : ℕ → ℕ × List Planned → (List Object → Volume → Run) → List Object → Volume → Run
+plan_step count step rest db tree =
+    stepping db (parts_of step.1) (step_label step.0 count (changes_text step.1)) (rest (entries_after (parts_of step.1) db) (changed db (parts_of step.1) tree)) tree
+
+-- some things with their numbers, from one on
+abbrev pub numbered : {A : Type 0} → ℕ → List A → List (ℕ × A)
+numbered from [] = []
+numbered from (x ∷ xs) = (from, x) ∷ numbered (from + 1) xs
+
+-- the run that has nothing left to do, whatever the tree
+abbrev pub at_end : List Object → Volume → Run
+at_end db tree = finished
+
+-- the run that makes the steps of a plan
+abbrev pub plan_made : List (List Planned) → List Object → Volume → Run
+plan_made steps db tree = running (plan_step (length steps)) (numbered 1 steps) at_end db tree
+
+-- the run that makes the steps of a plan, or refuses where there is none; want of memory isn't an answer of a plan
+abbrev pub plan_run : Result (List (List Planned)) PlanError → List Object → Volume → Run
+plan_run (Ok steps) db tree = plan_made steps db tree
+plan_run (Err (plans.Protected name)) db tree = refused (Protected name)
+plan_run (Err (plans.NotInstalled name)) db tree = refused (NotInstalled name)
+plan_run (Err (plans.Needed name by)) db tree = refused (Needed name by)
+plan_run (Err plans.NoMemory) db tree = finished
+
+-- the run of `remove` over a tree with these entries
+abbrev pub remove_run : List (List ℕ) → Bool → Volume → List Object → Run
+remove_run names force tree db = plan_run (removal_of db names force) db tree

@@ -1,0 +1,147 @@
+//! The steps of a plan, made one after the other.
+ghost use Rattle.std.specs.Prelude.{◌≡◌, ◌++◌, codes, All, IfOk, IfErr, OnOk, string_bytes};
+ghost use Rattle.std.specs.List.{flat_map};
+ghost use Rattle.tl_model.specs.Acks.{IsLabel};
+ghost use Rattle.tl_model.specs.Lines.{IsLine};
+ghost use Rattle.tl_model.specs.Volume.{Volume};
+ghost use Rattle.tl_command.specs.Endings.{no_devices};
+ghost use Rattle.tl_command.specs.Labels.{step_label};
+ghost use Rattle.tl_command.specs.Loaded.{Steps};
+ghost use Rattle.tl_command.specs.Performs.{Performs};
+ghost use Rattle.tl_command.specs.Runs.{Run, stepping};
+ghost use Rattle.tl_packages.specs.Remove.{change_text, changes_text, RemovesOne, part_of, parts_of, plan_made};
+
+use std::alloc::{AllocError, Global};
+use tl_command::{Acted, Session, finish, give_up, step, step_label};
+use tl_file::Bytes;
+use tl_host::Host;
+use tl_plan::{Planned, PlannedStep};
+use tl_tree::{Change, Part, PartList, Tree};
+
+// Adds what a part of a plan is called.
+fn push_change(text: &mut String, part: &Planned) -> Result<(), AllocError>
+    ensures text { OnOk result (string_bytes text.new ≡ string_bytes text.old ++ change_text part.now) }
+    ensures line { OnOk result (IsLine (change_text part.now)) }
+{
+    match part {
+        Planned::Remove { name } => {
+            text.push_str("remove ")?;
+            text.push_str(name.text())
+        }
+    }
+}
+
+// Adds what further parts of a plan are called, each behind a comma and a space.
+fn push_more(text: &mut String, more: &[Planned]) -> Result<(), AllocError>
+    requires { IsLine (string_bytes text.old) }
+    ensures text { OnOk result (string_bytes text.new
+        ≡ string_bytes text.old ++ flat_map (λ next. codes ", " ++ change_text next) more.now) }
+    ensures line { OnOk result (IsLine (string_bytes text.new)) }
+{
+    for part in more {
+        text.push_str(", ")?;
+        push_change(text, part)?;
+    }
+    Ok(())
+}
+
+// What a step of a plan is called.
+fn changes_text(alloc: Global, step: &[Planned]) -> Result<String, AllocError>
+    ensures text { IfOk result (λ text. string_bytes text ≡ changes_text step.now) }
+    ensures line { IfOk result (λ text. IsLine (string_bytes text)) }
+{
+    let mut text = String::new(alloc);
+    if let Some((first, more)) = step.split_first() {
+        push_change(&mut text, first)?;
+        push_more(&mut text, more)?;
+    }
+    Ok(text)
+}
+
+// The line that acknowledges a step of a plan.
+fn label_of(
+    alloc: Global,
+    number: usize,
+    count: usize,
+    planned: &PlannedStep,
+) -> Result<Vec<u8>, AllocError>
+    ensures text { IfOk result (λ label. label.items ≡ step_label number count (changes_text planned.now)) }
+    ensures label { IfOk result (λ label. IsLabel label.items) }
+{
+    let what = changes_text(alloc, planned.changes.as_slice())?;
+    step_label(alloc, number, count, what.as_str())
+}
+
+// What a part of a plan does to the tree.
+fn part_of(part: &Planned) -> Result<Part, AllocError>
+    ensures { IfOk result (λ made. made ≡ part_of part.now) }
+{
+    match part {
+        Planned::Remove { name } => Ok(Part::Remove {
+            name: name.clone()?,
+        }),
+    }
+}
+
+fn parts_of(alloc: Global, step: &[Planned]) -> Result<PartList, AllocError>
+    ensures { IfOk result (λ parts. parts ≡ parts_of step.now) }
+{
+    let mut parts = Vec::with_capacity(alloc, step.len())?;
+    for part in step {
+        parts.push(part_of(part)?)?;
+    }
+    Ok(PartList::new(parts))
+}
+
+// The change of a step of a plan.
+fn change_of(
+    alloc: Global,
+    number: usize,
+    count: usize,
+    planned: &PlannedStep,
+) -> Result<Change, AllocError>
+    ensures parts { IfOk result (λ change. change.parts ≡ parts_of planned.now) }
+    ensures text { IfOk result (λ change. change.label ≡ step_label number count (changes_text planned.now)) }
+    ensures label { IfOk result (λ change. IsLabel change.label) }
+{
+    let label = Bytes::new(label_of(alloc, number, count, planned)?);
+    let parts = parts_of(alloc, planned.changes.as_slice())?;
+    Ok(Change { parts, label })
+}
+
+// Makes a step of a plan; or, where it isn't made, how the command ends, whatever it would have done behind it.
+fn make<H: Host>(
+    alloc: Global,
+    number: usize,
+    count: usize,
+    planned: &PlannedStep,
+    tree: Tree<H>,
+) -> Result<Tree<H>, Acted<H>>
+    requires { RemovesOne planned.now }
+    ensures made { IfOk result (λ next. Steps H.tells (parts_of planned.now)
+        (step_label number count (changes_text planned.now)) tree next) }
+    ensures acted { IfErr result (λ acted. (rest : Volume → Run) → Performs H.tells H.seen
+        (λ t. stepping tree.db (parts_of planned.now) (step_label number count (changes_text planned.now))
+        (rest t) t) 0 tree.seen no_devices no_devices acted.ending acted.state) }
+{
+    let Ok(change) = change_of(alloc, number, count, planned) else {
+        return Err(give_up(Session::of_tree(tree)));
+    };
+    step(alloc, &change, tree)
+}
+
+/// Makes the steps of a plan, and ends with a command that was carried out.
+pub fn make_steps<H: Host>(alloc: Global, steps: &[PlannedStep], tree: Tree<H>) -> Acted<H>
+    requires { All RemovesOne steps.now }
+    ensures { Performs H.tells H.seen (λ t. plan_made steps.now tree.db t)
+        0 tree.seen no_devices no_devices result.ending result.state }
+{
+    let mut tree = tree;
+    for (at, planned) in steps.iter().enumerate() {
+        tree = match make(alloc, at + 1, steps.len(), planned, tree) {
+            Ok(next) => next,
+            Err(acted) => return acted,
+        };
+    }
+    finish(Session::of_tree(tree))
+}

@@ -1,0 +1,4 @@
+pub mod SetLaws
+pub mod OrderLaws
+pub mod PlanLaws
+pub mod WantedLaws
