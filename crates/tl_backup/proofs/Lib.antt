@@ -1,0 +1,4 @@
+pub mod Keys
+pub mod Making
+pub mod Orders
+pub mod Walks

@@ -1,0 +1,5 @@
+pub mod Asked
+pub mod Files
+pub mod Frames
+pub mod Listed
+pub mod Ordered
