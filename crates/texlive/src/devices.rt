@@ -6,6 +6,7 @@ use std::io::Input;
 use std::rt::Files;
 use std::thread::Threads;
 use tl_real::{FolderHost, FolderShelf, StdSource};
+use tl_tool::actions::BUILT;
 use tl_tool::{Ending, Regexps, texlive};
 use tl_words::{Command, Repository, WordsError, read_words};
 
@@ -35,7 +36,7 @@ where
 }
 
 fn named_folders(alloc: Global, words: &[Vec<u8>]) -> Result<Folders, AllocError> {
-    match read_words(alloc, words) {
+    match read_words(alloc, &BUILT, words) {
         Ok(command) => command_folders(alloc, &command),
         Err(WordsError::BadWords { .. }) => Ok(Folders {
             root: Vec::from_slice(alloc, HERE)?,

@@ -1,5 +1,6 @@
 //! The options that are the program's own.
 use crate::{DONE, print, want_of_memory};
+use tl_tool::actions::BUILT;
 use tl_words::usage;
 
 const VERSION: &[u8] = b"texlive 0.1.0\n";
@@ -28,7 +29,7 @@ fn asks_for_version(word: &[u8]) -> bool {
 
 // Prints how the program is called.
 fn help<R: Print + Eprint + AllocGlobal>(rt: &R) -> u8 {
-    match usage(rt.alloc()) {
+    match usage(rt.alloc(), &BUILT) {
         Ok(text) => print(rt, text.as_bytes(), DONE),
         Err(_) => want_of_memory(rt),
     }

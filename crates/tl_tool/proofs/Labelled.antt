@@ -1,32 +1,55 @@
 -- The line of each step of a run is one acknowledged line.
-use Rattle.std.proofs.Common.{ℕ, List, Option, Some, None}
-use Rattle.tl_model.specs.Volume.{Volume}
+use Rattle.std.proofs.Common.{ℕ, nat_lt, Bool, true, false, cond, List, length, Option, Some, None, Result, Ok, Err}
+use Rattle.tl_kind.specs.Quantities.{limit_of}
+use Rattle.tl_kind.specs.declared.quantity.What.TheVariants.{Database}
+use Rattle.tl_model.specs.Volume.{Volume, at}
 use Rattle.tl_model.specs.Devices.{Outside}
 use Rattle.tl_tree.specs.Planted.{database_text}
 use Rattle.tl_action.specs.declared.command.Action.{Action}
 use Rattle.tl_action.specs.declared.command.Action.TheVariants as actions
 use Rattle.tl_action.specs.declared.command.Command.{Command}
+use Rattle.tl_action.specs.declared.command.Repository.{Repository}
 use Rattle.tl_words.specs.declared.faults.Fault.{Fault}
-use Rattle.tl_words.specs.Faults.{words_fault}
-use Rattle.tl_command.specs.Runs.{AreLabelled}
+use Rattle.tl_lsr.specs.Lists.{list_path}
+use Rattle.tl_lsr.specs.Reading.{lsr_read}
+use Rattle.tl_refusal.specs.declared.refusal.Refusal.TheVariants.{TooLarge}
+use Rattle.tl_command.specs.Runs.{AreLabelled, refused, over_bytes}
 use Rattle.tl_command.proofs.Limits.{labelled-over}
+use Rattle.tl_show.specs.Check.{check_run}
 use Rattle.tl_show.specs.Dump.{dump_run}
+use Rattle.tl_show.specs.Which.{listed_run, list_run, which_run}
 use Rattle.tl_settings.specs.Settings.{option_run}
 use Rattle.tl_settings.proofs.Labels.{labelled-option}
-use Rattle.tl_tool.specs.Commands.{command_at, action_run, act_at, by_words, run_of}
+use Rattle.tl_tool.specs.Commands.{program_fault, command_at, action_run, act_at, by_words, run_of}
 
-labelled-action : (action : Action) (outside : Outside) (tree : Volume) → AreLabelled (action_run action outside tree).events
-labelled-action (actions.DumpTlpdb local) outside tree = labelled-over dump_run (database_text tree) (λ entries. tt)
-labelled-action (actions.Setting option values) outside tree = labelled-over (option_run option values tree) (database_text tree) (λ entries. labelled-option option values tree entries)
-labelled-action _ outside tree = tt
+-- the run of `which` makes no steps
+labelled-listed : (name : List ℕ) (read : Result (List (List ℕ)) ℕ) → AreLabelled (listed_run name read).events
+labelled-listed name (Ok paths) = tt
+labelled-listed name (Err line) = tt
+
+labelled-which : (name : List ℕ) (found : Option (List ℕ)) → AreLabelled (over_bytes Database (list_run name) found).events
+labelled-which name None = tt
+labelled-which name (Some text) = by (nat_lt (limit_of Database) (length text))
+  where
+    by : (past : Bool) → let run = cond past (refused (TooLarge Database (limit_of Database))) (list_run name (Some text)) in AreLabelled run.events
+    by true = tt
+    by false = labelled-listed name (lsr_read text)
+
+labelled-action : (action : Action) (repositories : List Repository) (outside : Outside) (tree : Volume) → AreLabelled (action_run action repositories outside tree).events
+labelled-action (actions.DumpTlpdb local) repositories outside tree = labelled-over dump_run (database_text tree) (λ entries. tt)
+labelled-action (actions.Check what) repositories outside tree = labelled-over (check_run what tree) (database_text tree) (λ entries. tt)
+labelled-action (actions.Setting option values) repositories outside tree = labelled-over (option_run option values tree) (database_text tree) (λ entries. labelled-option option values tree entries)
+labelled-action (actions.Which word) repositories outside tree = labelled-over (λ _. which_run word tree) (database_text tree) (λ entries. labelled-which word (at tree list_path))
+labelled-action _ repositories outside tree = tt
 
 labelled-act : (command : Option Command) (outside : Outside) (tree : Volume) → AreLabelled (act_at command outside tree).events
 labelled-act None outside tree = tt
-labelled-act (Some command) outside tree = labelled-action command.action outside tree
+labelled-act (Some command) outside tree = labelled-action command.action command.repositories outside tree
 
 -- the steps of the run of words are labelled
 pub labelled-run : (words : List (List ℕ)) (outside : Outside) (tree : Volume) → AreLabelled (run_of words outside tree).events
-labelled-run words outside tree = by (words_fault words)
+unfolding run_of
+labelled-run words outside tree = by (program_fault words)
   where
     by : (fault : Option Fault) → AreLabelled (by_words fault (act_at (command_at words) outside tree)).events
     by (Some fault) = tt

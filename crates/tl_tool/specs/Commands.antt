@@ -4,9 +4,11 @@ use Rattle.tl_model.specs.Volume.{Volume}
 use Rattle.tl_model.specs.Devices.{Outside}
 use Rattle.tl_tree.specs.Planted.{database_text}
 use Rattle.tl_action.specs.declared.action_name.ActionName.{ActionName}
+use Rattle.tl_action.specs.declared.action_name.ActionName.TheVariants.{DumpTlpdb, Check, Setting, Which}
 use Rattle.tl_action.specs.declared.command.Action.{Action}
 use Rattle.tl_action.specs.declared.command.Action.TheVariants as actions
 use Rattle.tl_action.specs.declared.command.Command.{Command}
+use Rattle.tl_action.specs.declared.command.Repository.{Repository}
 use Rattle.tl_action.specs.declared.table.OptionName.TheVariants.{Formats}
 use Rattle.tl_words.specs.declared.faults.Fault.{Fault}
 use Rattle.tl_words.specs.Parts.{Part}
@@ -16,7 +18,9 @@ use Rattle.tl_words.specs.Commands.{first_action, first_word, action_of}
 use Rattle.tl_refusal.specs.declared.refusal.Refusal.TheVariants.{BadWords, BadJournal}
 use Rattle.tl_command.specs.Runs.{Run, finished, refused, over_database}
 use Rattle.tl_command.specs.Whole.{journal_place}
+use Rattle.tl_show.specs.Check.{check_run}
 use Rattle.tl_show.specs.Dump.{dump_run}
+use Rattle.tl_show.specs.Which.{which_run}
 use Rattle.tl_settings.specs.Settings.{option_run}
 
 -- what a command says of the program's words: the root, and of their parts the repositories in order, the workers, 4 where none are
@@ -31,19 +35,29 @@ command_with root all name = record {
   formats = has_option Formats all;
 }
 
+-- the actions that the program carries out, and so are on
+abbrev pub built_actions : List ActionName
+built_actions = DumpTlpdb ∷ Check ∷ Setting ∷ Which ∷ []
+
+-- the first fault of the program's words
+abbrev pub program_fault : List (List ℕ) → Option Fault
+program_fault words = words_fault built_actions words
+
 -- the command that words without a fault ask for
 abbrev pub command_at : List (List ℕ) → Option Command
-command_at words = option_map (command_with (first_word words) (program_parts words)) (first_action (plains (program_parts words)))
+command_at words = option_map (command_with (first_word words) (program_parts words)) (first_action built_actions (plains (program_parts words)))
 
--- the run of an action; words never ask for one that isn't built
-abbrev pub action_run : Action → Outside → Volume → Run
-action_run (actions.DumpTlpdb local) outside tree = over_database dump_run (database_text tree)
-action_run (actions.Setting option values) outside tree = over_database (option_run option values tree) (database_text tree)
-action_run _ outside tree = finished
+-- the run of an action with these repositories; words never ask for one that isn't built
+abbrev pub action_run : Action → List Repository → Outside → Volume → Run
+action_run (actions.DumpTlpdb local) repositories outside tree = over_database dump_run (database_text tree)
+action_run (actions.Check what) repositories outside tree = over_database (check_run what tree) (database_text tree)
+action_run (actions.Setting option values) repositories outside tree = over_database (option_run option values tree) (database_text tree)
+action_run (actions.Which word) repositories outside tree = over_database (λ _. which_run word tree) (database_text tree)
+action_run _ repositories outside tree = finished
 
 -- the run of a command over a tree and the outside
 abbrev pub act_of : Command → Outside → Volume → Run
-act_of command outside tree = action_run command.action outside tree
+act_of command outside tree = action_run command.action command.repositories outside tree
 
 -- the run of a command; words without a fault have one
 abbrev pub act_at : Option Command → Outside → Volume → Run
@@ -56,12 +70,12 @@ by_words (Some fault) run = refused (BadWords fault.at fault.kind)
 by_words None run = run
 
 -- the run of words over a tree and the outside
-abbrev pub run_of : List (List ℕ) → Outside → Volume → Run
-run_of words outside tree = by_words (words_fault words) (act_at (command_at words) outside tree)
+unfoldable pub run_of : List (List ℕ) → Outside → Volume → Run
+run_of words outside tree = by_words (program_fault words) (act_at (command_at words) outside tree)
 
 -- the run of words over a volume that stands for no tree
-abbrev pub run_without : List (List ℕ) → Volume → Run
-run_without words volume = by_words (words_fault words) (refused (BadJournal (journal_place volume)))
+unfoldable pub run_without : List (List ℕ) → Volume → Run
+run_without words volume = by_words (program_fault words) (refused (BadJournal (journal_place volume)))
 
 -- whether an action reads repositories
 abbrev pub reads_repositories : Action → Bool
@@ -95,5 +109,5 @@ command_by (Some fault) command = None
 command_by None command = command
 
 -- whether all that the command of some words reads tells what it holds
-abbrev pub tells_for : List (List ℕ) → Bool → Bool → Bool → Bool
-tells_for words shelf input host = tells_at (command_by (words_fault words) (command_at words)) shelf input host
+unfoldable pub tells_for : List (List ℕ) → Bool → Bool → Bool → Bool
+tells_for words shelf input host = tells_at (command_by (program_fault words) (command_at words)) shelf input host

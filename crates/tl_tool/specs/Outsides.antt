@@ -9,3 +9,7 @@ outside_of shelf input regexps = record { repositories = shelf.repositories; inp
 -- the counts of faults of a shelf and a source
 abbrev pub faults_of : ShelfSeen → SourceSeen → Faults
 faults_of shelf input = record { shelf = shelf.faults; input = input.faults }
+
+-- the counts of faults of a shelf, for a command that is given no input
+abbrev pub shelf_faults : ShelfSeen → Faults
+shelf_faults shelf = record { shelf = shelf.faults; input = 0 }

@@ -1,23 +1,22 @@
 //! The top call.
-ghost use Rattle.std.specs.Prelude.{◌≡◌, ◌≤◌, ◌+◌, Some, None, IsSome};
+ghost use Rattle.std.specs.Prelude.{◌≡◌, ◌≤◌, ◌+◌, Bool, Some, None, IsSome};
 ghost use Rattle.tl_model.specs.Devices.{Outside};
 ghost use Rattle.tl_model.specs.Seen.{Told};
 ghost use Rattle.tl_model.specs.Volume.{Volume};
 ghost use Rattle.tl_journal_text.specs.Slots.{open_slot};
 ghost use Rattle.tl_journal_text.specs.Stand.{stand};
-ghost use Rattle.tl_action.specs.Actions.{IsBuilt};
+ghost use Rattle.tl_action.specs.Actions.{IsOn};
 ghost use Rattle.tl_action.specs.Texts.{texts};
-ghost use Rattle.tl_words.specs.Faults.{words_fault};
 ghost use Rattle.tl_refusal.specs.declared.refusal.Refusal.TheVariants.{BadJournal};
-ghost use Rattle.tl_command.specs.Endings.{Faults, IsCarried, IsCaused, IsWordless, no_devices};
-ghost use Rattle.tl_command.specs.Performs.{Performs};
+ghost use Rattle.tl_command.specs.Endings.{IsCarried, IsCaused, IsWordless};
 ghost use Rattle.tl_command.specs.Runs.{AreLabelled, refused};
 ghost use Rattle.tl_command.specs.Whole.{OnlySays, Runs, journal_place};
-ghost use Rattle.tl_tool.specs.Commands.{act_of, run_of, run_without, tells_for};
-ghost use Rattle.tl_tool.specs.Outsides.{faults_of, outside_of};
+ghost use Rattle.tl_tool.specs.Acts.{Acts, MakesRun};
+ghost use Rattle.tl_tool.specs.Commands.{built_actions, program_fault, run_of, run_without, tells_all, tells_for};
+ghost use Rattle.tl_tool.specs.Outsides.{faults_of, outside_of, shelf_faults};
 ghost use Rattle.tl_tool.specs.Top.{AnswersWords};
 
-use crate::actions::{dump_tlpdb, option};
+use crate::actions::{BUILT, check, dump_tlpdb, option, which};
 use std::alloc::Global;
 use std::thread::Threads;
 use tl_command::{Acted, Ending, Refusal, Session, begin, end, refuse_at_once};
@@ -26,36 +25,41 @@ use tl_regexp::Regexps;
 use tl_words::{Action, Command, WordsError, read_words};
 
 // Carries a command out.
-fn act<H: Host>(alloc: Global, command: Command, session: Session<H>) -> Acted<H>
-    requires { IsBuilt command.action }
-    ensures { (outside : Outside) → Performs H.tells H.seen (act_of command outside)
-        0 session no_devices no_devices result.ending result.state }
+fn act<H: Host, S: Shelf>(
+    alloc: Global,
+    command: Command,
+    shelf: &mut S,
+    session: Session<H>,
+) -> Acted<H>
+    requires { IsOn built_actions command.action }
+    ensures { Acts S.tells H.tells H.seen command session (S.seen shelf.old) (S.seen shelf.new) result.ending result.state }
 {
     let Command { action, .. } = command;
     match action {
         Action::DumpTlpdb { local: _ } => dump_tlpdb(alloc, session),
+        Action::Check { what } => check(alloc, what, session),
         Action::Setting {
             option: name,
             values,
         } => option(alloc, name, values.as_slice(), session),
+        Action::Which { word } => which(alloc, word.as_slice(), session),
         _ => unreachable!(),
     }
 }
 
 // Recovers the volume, carries a command out over its tree, and ends the run.
-fn start<H: Host>(alloc: Global, command: Command, host: H) -> (Ending, H)
-    requires { IsBuilt command.action }
-    ensures run { Told H.tells ((outside : Outside) (tree : Volume) → stand (H.seen host).present.held ≡ Some tree →
-        Runs (act_of command outside tree) result.0 (H.seen host) (H.seen result.1) tree) }
+fn start<H: Host, S: Shelf>(alloc: Global, command: Command, shelf: &mut S, host: H) -> (Ending, H)
+    requires { IsOn built_actions command.action }
+    ensures run { MakesRun S.tells H.tells command result.0 (H.seen host) (H.seen result.1) (S.seen shelf.old) }
     ensures without { Told H.tells (stand (H.seen host).present.held ≡ None →
         OnlySays (refused (BadJournal (journal_place (H.seen host).present.held))) result.0 (H.seen host) (H.seen result.1)) }
-    ensures shut { Told H.tells (IsSome (stand (H.seen host).present.held) → IsCarried result.0 →
-        open_slot (H.seen result.1).present.held ≡ None) }
-    ensures cause { (before after : Faults) → IsCaused result.0 (H.seen host) (H.seen result.1) before after }
+    ensures shut { (input : Bool) → Told (tells_all command.action S.tells input H.tells)
+        (IsSome (stand (H.seen host).present.held) → IsCarried result.0 → open_slot (H.seen result.1).present.held ≡ None) }
+    ensures cause { IsCaused result.0 (H.seen host) (H.seen result.1) (shelf_faults (S.seen shelf.old)) (shelf_faults (S.seen shelf.new)) }
     ensures words { IsWordless result.0 → ⊥ }
 {
     match begin(alloc, host) {
-        Ok(session) => end(act(alloc, command, session)),
+        Ok(session) => end(act(alloc, command, shelf, session)),
         Err(ended) => ended,
     }
 }
@@ -87,14 +91,14 @@ pub fn texlive<R: Threads + Sync, H: Host, S: Shelf, I: Source>(
     ensures labels { (outside : Outside) (tree : Volume) → AreLabelled (run_of (texts words.now) outside tree).events }
     ensures without { Told H.tells (stand (H.seen host).present.held ≡ None →
         OnlySays (run_without (texts words.now) (H.seen host).present.held) result.0 (H.seen host) (H.seen result.1)) }
-    ensures shut { Told H.tells (IsSome (stand (H.seen host).present.held) → words_fault (texts words.now) ≡ None →
-        IsCarried result.0 → open_slot (H.seen result.1).present.held ≡ None) }
-    ensures words { AnswersWords H.tells (words_fault (texts words.now)) result.0 (H.seen host) (H.seen result.1) }
+    ensures shut { Told (tells_for (texts words.now) S.tells I.tells H.tells) (IsSome (stand (H.seen host).present.held) →
+        program_fault (texts words.now) ≡ None → IsCarried result.0 → open_slot (H.seen result.1).present.held ≡ None) }
+    ensures words { AnswersWords H.tells (program_fault (texts words.now)) result.0 (H.seen host) (H.seen result.1) }
     ensures cause { IsCaused result.0 (H.seen host) (H.seen result.1)
         (faults_of (S.seen shelf.old) (I.seen input.old)) (faults_of (S.seen shelf.new) (I.seen input.new)) }
 {
-    match read_words(alloc, words) {
-        Ok(command) => start(alloc, command, host),
+    match read_words(alloc, &BUILT, words) {
+        Ok(command) => start(alloc, command, shelf, host),
         Err(WordsError::BadWords { at, kind }) => {
             refuse_at_once(alloc, Refusal::BadWords { at, kind }, host)
         }
