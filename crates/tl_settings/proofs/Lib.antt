@@ -1,2 +1,4 @@
 pub mod Joined
 pub mod Labels
+pub mod PinLabels
+pub mod RemoveLemmas

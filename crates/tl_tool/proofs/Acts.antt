@@ -1,6 +1,7 @@
 -- A command that reads less than the whole outside, as one over all of it.
 use Rattle.std.proofs.Common.{◌≡◌, Bool, true, false, not, ◌&&◌, ◌||◌, Option, Some, None, Result, inr, refl, sym, subst, arith}
-use Rattle.std.specs.Prelude.{IsTrue}
+use Rattle.std.specs.Prelude.{IsTrue, IsSome}
+use Rattle.tl_model.specs.Volume.{Volume}
 use Rattle.tl_model.specs.Devices.{ShelfSeen, SourceSeen, Outside}
 use Rattle.tl_model.specs.Seen.{Seen}
 use Rattle.tl_action.specs.declared.command.Action.{Action}
@@ -8,7 +9,7 @@ use Rattle.tl_action.specs.declared.command.Command.{Command}
 use Rattle.tl_words.specs.declared.faults.Fault.{Fault}
 use Rattle.tl_command.specs.declared.ending.Ending.{Ending}
 use Rattle.tl_command.specs.declared.ending.Ending.TheVariants.{Done, Refused, HostFault, ShelfFault, InputFault, NoMemory}
-use Rattle.tl_command.specs.Endings.{no_devices, IsCaused}
+use Rattle.tl_command.specs.Endings.{no_devices, IsCarried, IsCaused}
 use Rattle.tl_command.specs.Performs.{Performs}
 use Rattle.tl_command.proofs.Joins.{performs_alone, performs_fewer}
 use Rattle.tl_tool.specs.Acts.{Acts}
@@ -48,3 +49,8 @@ caused-beside NoMemory first last old new left lost cause = cause
 pub answers-no_memory : (tells : Bool) (fault : Option Fault) (first : Seen) → AnswersWords tells fault NoMemory first first
 answers-no_memory tells (Some fault) first = record { ending = inr (inr refl); names = λ t. (refl, refl) }
 answers-no_memory tells None first = record { ending = λ none. none; names = λ t. tt }
+
+-- a volume that stood for a tree and wasn't recovered: nothing was carried out or refused
+pub failed-apart : {A : Type 0} (stood : Option Volume) (ending : Ending) → ((tree : Volume) → stood ≡ Some tree → ending ≡ HostFault) → IsSome stood → IsCarried ending → A
+failed-apart None ending fault some carried = absurd (cc)
+failed-apart (Some tree) ending fault some carried = absurd (subst IsCarried (fault tree refl) carried)

@@ -19,7 +19,10 @@ use Rattle.tl_show.specs.Check.{check_run}
 use Rattle.tl_show.specs.Dump.{dump_run}
 use Rattle.tl_show.specs.Which.{listed_run, list_run, which_run}
 use Rattle.tl_settings.specs.Settings.{option_run}
+use Rattle.tl_offer.specs.Pinned.{over_pins}
+use Rattle.tl_settings.specs.Pinning.{pinning_run}
 use Rattle.tl_settings.proofs.Labels.{labelled-option}
+use Rattle.tl_settings.proofs.PinLabels.{labelled-pinning}
 use Rattle.tl_tool.specs.Commands.{program_fault, command_at, action_run, act_at, by_words, run_of}
 
 -- the run of `which` makes no steps
@@ -39,6 +42,8 @@ labelled-action : (action : Action) (repositories : List Repository) (outside : 
 labelled-action (actions.DumpTlpdb local) repositories outside tree = labelled-over dump_run (database_text tree) (λ entries. tt)
 labelled-action (actions.Check what) repositories outside tree = labelled-over (check_run what tree) (database_text tree) (λ entries. tt)
 labelled-action (actions.Setting option values) repositories outside tree = labelled-over (option_run option values tree) (database_text tree) (λ entries. labelled-option option values tree entries)
+labelled-action (actions.Pinning pins) repositories outside tree =
+    labelled-over (λ entries. over_pins (pinning_run pins tree entries) tree) (database_text tree) (λ entries. labelled-pinning pins tree entries)
 labelled-action (actions.Which word) repositories outside tree = labelled-over (λ _. which_run word tree) (database_text tree) (λ entries. labelled-which word (at tree list_path))
 labelled-action _ repositories outside tree = tt
 

@@ -4,7 +4,7 @@ use Rattle.tl_model.specs.Volume.{Volume}
 use Rattle.tl_model.specs.Devices.{Outside}
 use Rattle.tl_tree.specs.Planted.{database_text}
 use Rattle.tl_action.specs.declared.action_name.ActionName.{ActionName}
-use Rattle.tl_action.specs.declared.action_name.ActionName.TheVariants.{DumpTlpdb, Check, Setting, Which}
+use Rattle.tl_action.specs.declared.action_name.ActionName.TheVariants.{DumpTlpdb, Check, Setting, Pinning, Which}
 use Rattle.tl_action.specs.declared.command.Action.{Action}
 use Rattle.tl_action.specs.declared.command.Action.TheVariants as actions
 use Rattle.tl_action.specs.declared.command.Command.{Command}
@@ -21,6 +21,8 @@ use Rattle.tl_command.specs.Whole.{journal_place}
 use Rattle.tl_show.specs.Check.{check_run}
 use Rattle.tl_show.specs.Dump.{dump_run}
 use Rattle.tl_show.specs.Which.{which_run}
+use Rattle.tl_offer.specs.Pinned.{over_pins}
+use Rattle.tl_settings.specs.Pinning.{pinning_run}
 use Rattle.tl_settings.specs.Settings.{option_run}
 
 -- what a command says of the program's words: the root, and of their parts the repositories in order, the workers, 4 where none are
@@ -37,7 +39,7 @@ command_with root all name = record {
 
 -- the actions that the program carries out, and so are on
 abbrev pub built_actions : List ActionName
-built_actions = DumpTlpdb ∷ Check ∷ Setting ∷ Which ∷ []
+built_actions = DumpTlpdb ∷ Check ∷ Setting ∷ Pinning ∷ Which ∷ []
 
 -- the first fault of the program's words
 abbrev pub program_fault : List (List ℕ) → Option Fault
@@ -52,6 +54,7 @@ abbrev pub action_run : Action → List Repository → Outside → Volume → Ru
 action_run (actions.DumpTlpdb local) repositories outside tree = over_database dump_run (database_text tree)
 action_run (actions.Check what) repositories outside tree = over_database (check_run what tree) (database_text tree)
 action_run (actions.Setting option values) repositories outside tree = over_database (option_run option values tree) (database_text tree)
+action_run (actions.Pinning pins) repositories outside tree = over_database (λ entries. over_pins (pinning_run pins tree entries) tree) (database_text tree)
 action_run (actions.Which word) repositories outside tree = over_database (λ _. which_run word tree) (database_text tree)
 action_run _ repositories outside tree = finished
 

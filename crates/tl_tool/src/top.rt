@@ -16,7 +16,7 @@ ghost use Rattle.tl_tool.specs.Commands.{built_actions, program_fault, run_of, r
 ghost use Rattle.tl_tool.specs.Outsides.{faults_of, outside_of, shelf_faults};
 ghost use Rattle.tl_tool.specs.Top.{AnswersWords};
 
-use crate::actions::{BUILT, check, dump_tlpdb, option, which};
+use crate::actions::{BUILT, check, dump_tlpdb, option, pinning, which};
 use std::alloc::Global;
 use std::thread::Threads;
 use tl_command::{Acted, Ending, Refusal, Session, begin, end, refuse_at_once};
@@ -42,6 +42,7 @@ fn act<H: Host, S: Shelf>(
             option: name,
             values,
         } => option(alloc, name, values.as_slice(), session),
+        Action::Pinning { pins } => pinning(alloc, pins, session),
         Action::Which { word } => which(alloc, word.as_slice(), session),
         _ => unreachable!(),
     }

@@ -1,11 +1,11 @@
 use Rattle.std.proofs.Common.{[], true, refl}
 use Rattle.std.specs.FinMap as map
 use Rattle.tl_model.specs.Devices.{ShelfSeen, Outside}
-use Rattle.tl_journal_text.specs.Stand.{tree_of}
+use Rattle.tl_journal_text.specs.Stand.{stand, tree_of}
 use Rattle.tl_command.proofs.Wholes.{acted_begun, runs_begun, caused_begun, later_begun, begins_fewer}
 use Rattle.tl_tool.specs.Commands.{act_of, tells_all}
 use Rattle.tl_tool.specs.Outsides.{shelf_faults}
-use Rattle.tl_tool.proofs.Acts.{tells_all-host}
+use Rattle.tl_tool.proofs.Acts.{failed-apart, tells_all-host}
 use Rattle.tl_tool.proofs.top.start.Goals as goal
 
 abbrev nothing_beside : ShelfSeen → Outside
@@ -57,3 +57,9 @@ returns-in-Ok-clause-words g c = let performs = c.act.ensures (nothing_beside (g
 pub returns-in-Err-clause-run : goal.returns-in-Err-clause-run
 returns-in-Err-clause-run g c outside input same t tree stood =
     c.in-Err.ensures.ended.run (tells_all-host c.args.command.action g.S.Shelf.tells input g.H.Host.tells t) (act_of c.args.command outside tree) tree stood
+
+pub returns-in-Err-clause-shut : goal.returns-in-Err-clause-shut
+returns-in-Err-clause-shut g c input t some carried =
+    let host = g.H.Host.tells in
+    let ended = c.in-Err.ensures.ended in
+    failed-apart (stand (g.H.Host.seen c.args.host).present.held) c.in-Err.ended.0 (ended.uncarried (tells_all-host c.args.command.action g.S.Shelf.tells input host t)) some carried
