@@ -1,5 +1,5 @@
 -- No fault of words stands past the limit on their number.
-use Rattle.std.proofs.Common.{◌≡◌, ℕ, ◌+◌, ◌<◌, ◌≤◌, Bool, true, false, cond, not, ◌&&◌, ◌||◌, ◌==◌, nat_le, nat_lt, List, [], ◌∷◌, length, drop, Option, Some, None, refl, ap, sym, subst, ◌∙◌, arith, ⊎_elim, bytes_eq, codes, is_none}
+use Rattle.std.proofs.Common.{◌≡◌, ℕ, ◌+◌, ◌<◌, ◌≤◌, Bool, true, false, cond, not, ◌&&◌, ◌||◌, ◌==◌, nat_le, nat_lt, List, [], ◌∷◌, length, drop, Option, Some, None, refl, ap, sym, subst, ◌∙◌, arith, ⊎_elim, bytes_eq, codes, is_none, Vec, Result, Ok, Err, OnOk}
 use Rattle.std.proofs.lemmas.Bool.Decides.{nat_tests}
 use Rattle.tl_words.specs.declared.faults.Fault.{Fault}
 use Rattle.tl_action.specs.declared.table.OptionName.{OptionName}
@@ -13,10 +13,15 @@ use Rattle.std.specs.List.{list_any}
 use Rattle.tl_words.specs.Order.{fault, or_else, earlier}
 use Rattle.tl_words.specs.Operands.{operand_fault, operands_fault, form_kind}
 use Rattle.tl_action.specs.Forms.{form_of, fits, after, is_needed}
-use Rattle.tl_words.specs.Settings.{given_fault, setting_fault, options_fault, tags_after, tag_of, is_worker_count, has_option, repositories_of}
-use Rattle.tl_words.specs.Faults.{size_fault, plains, is_foreign, foreign_fault, user_fault, required_fault, flags_fault, repository_fault, known_fault, action_fault, command_fault}
+use Rattle.tl_words.specs.Settings.{given_fault, setting_fault, options_fault, tags_after, tag_of, is_worker_count, has_option, is_option, repositories_of}
+use Rattle.tl_words.specs.Faults.{size_fault, plains, is_foreign, foreign_fault, user_fault, required_fault, flags_fault, repository_fault, known_fault, action_fault, command_fault, forbidden_fault}
 use Rattle.tl_words.specs.declared.error.WordKind.TheVariants as kinds
 use Rattle.std.proofs.lemmas.Bool.{cases_lt}
+use Rattle.std.specs.declared.alloc.Global.{Global}
+use Rattle.tl_action.specs.Texts.{texts}
+use Rattle.tl_action.specs.declared.command.Command.{Command}
+use Rattle.tl_words.specs.declared.error.WordsError.{WordsError}
+use Rattle.tl_words.proofs.Drops.{length_texts}
 use Rattle.tl_words.specs.Places.{ValueWithin, PartsWithin, AreWithin}
 
 -- a fault, if there is one, stands at most so far
@@ -203,6 +208,33 @@ command-within on in_session words all within = ⊎_elim
 -- so the first fault of a command stands at most at 4,096
 pub fault-within : (on : List ActionName) (in_session : Bool) (words : List (List ℕ)) (all : List Part) (found : Fault) → AreWithin words all → command_fault on in_session words all ≡ Some found → found.at ≤ 4096
 fault-within on in_session words all found within is = subst (FaultWithin 4096) is (command-within on in_session words all within)
+
+some_fault : (x y : Option Fault) (found : Fault) → or_else (earlier x (Some found)) y ≡ None → ⊥
+some_fault None y found none = cc
+some_fault (Some a) y found none = cc
+
+-- words without a fault are within the limit on their number
+pub few_words : (on : List ActionName) (in_session : Bool) (words : List (List ℕ)) (all : List Part) → command_fault on in_session words all ≡ None → length words ≤ 4096
+few_words on in_session words all none = ⊎_elim
+    (λ over.
+    let first = first_over 0 words (omega arith) (omega (arith, over)) in
+    absurd (some_fault (options_fault [] all) (action_fault on in_session (length words) all (plains all)) first.0
+    (subst (λ (x : Option Fault). or_else (earlier (options_fault [] all) x) (action_fault on in_session (length words) all (plains all)) ≡ None) first.1.0 none)))
+    (λ few. few)
+    (cases_lt 4096 (length words))
+
+-- so are the words of a command that was read
+pub read_few : (on : List ActionName) (in_session : Bool) (words : List (Vec ℕ Global)) (all : List Part) (result : Result Command WordsError)
+    → OnOk result (command_fault on in_session (texts words) all ≡ None) → OnOk result (length words ≤ 4096)
+read_few on in_session words all (Ok command) none = subst (λ n. n ≤ 4096) (length_texts words) (few_words on in_session (texts words) all none)
+read_few on in_session words all (Err error) none = tt
+
+-- where an option stands that words may not have
+pub forbidden-within : (n : ℕ) (this : OptionName) (all : List Part) → PartsWithin n all → FaultWithin n (forbidden_fault this all)
+forbidden-within n this [] w = tt
+forbidden-within n this (plain at word ∷ others) w = forbidden-within n this others w.1
+forbidden-within n this (given at option value ∷ others) w =
+    either (FaultWithin n) (is_option this option) (Some (fault kinds.Option at)) (forbidden_fault this others) w.0 (forbidden-within n this others w.1.1)
 
 -- the parts of the program's words
 pub program-within : (words : List (List ℕ)) → AreWithin words (parts false None false 1 (drop 1 words))

@@ -8,7 +8,7 @@ use Rattle.tl_action.specs.declared.action_name.ActionName.{ActionName}
 use Rattle.tl_action.specs.Table.{action_named_among, goes_with, is_unfit_for_users, is_for_users, needs_local, operands_of, is_served}
 use Rattle.tl_words.specs.Parts.{Part, given, plain, parts}
 use Rattle.tl_words.specs.Order.{fault, or_else, earlier}
-use Rattle.tl_words.specs.Settings.{options_fault, repositories_of, has_option}
+use Rattle.tl_words.specs.Settings.{options_fault, repositories_of, has_option, is_option}
 use Rattle.tl_words.specs.Operands.{operands_fault}
 
 -- the first word past the limits: 4,096 words of 65,536 bytes each
@@ -91,3 +91,9 @@ session_parts words = parts true None false 0 words
 -- the first fault of the words of a session's line, where some actions are on
 abbrev pub session_fault : List ActionName → List (List ℕ) → Option Fault
 session_fault on words = command_fault on true words (session_parts words)
+
+-- the fault of words that may not have this option: it stands at its first place
+abbrev pub forbidden_fault : OptionName → List Part → Option Fault
+forbidden_fault this [] = None
+forbidden_fault this (plain at word ∷ others) = forbidden_fault this others
+forbidden_fault this (given at option value ∷ others) = if is_option this option then Some (fault kinds.Option at) else forbidden_fault this others

@@ -2,7 +2,7 @@
 ghost use Rattle.std.specs.Prelude.{◌≡◌, ◌==◌, ◌||◌, length, nat_lt, Some, IfOk};
 ghost use Rattle.tl_words.specs.Order.{earlier};
 ghost use Rattle.tl_words.specs.Settings.{is_option, has_option, repositories_of};
-ghost use Rattle.tl_words.specs.Faults.{size_fault, is_foreign, foreign_fault, user_fault, required_fault, flags_fault, repository_fault, asked_fault};
+ghost use Rattle.tl_words.specs.Faults.{size_fault, is_foreign, foreign_fault, user_fault, required_fault, flags_fault, repository_fault, asked_fault, forbidden_fault};
 ghost use Rattle.tl_action.specs.Texts.{texts};
 ghost use Rattle.tl_words.specs.Inside.{parts_left, plains_left};
 
@@ -114,6 +114,23 @@ pub(crate) fn has_option(this: OptionName, parts: PartsIter<'_>) -> bool
         }
     }
     false
+}
+
+// Where this option first stands, as the fault of words that may not have it.
+pub(crate) fn forbidden_fault(this: OptionName, parts: PartsIter<'_>) -> Option<Fault>
+    ensures { result ≡ forbidden_fault this (parts_left parts.entry) }
+{
+    for part in parts {
+        if let PartRef::Given { at, option, .. } = part {
+            if is_option(this, option) {
+                return Some(Fault {
+                    at,
+                    kind: WordKind::Option,
+                });
+            }
+        }
+    }
+    None
 }
 
 // The fault of `usermode` without `usertree`.

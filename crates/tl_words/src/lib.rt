@@ -14,8 +14,8 @@ mod values;
 pub use error::{WordKind, WordsError};
 pub use faults::Fault;
 pub use line::split_line;
-pub use read::{read_shell_words, read_words};
+pub use read::{read_shell_words, read_words, refuse_option};
 pub use tl_action::{
-    Action, Bytes, Command, Names, PinAction, Repositories, Repository, Texts, usage,
+    Action, Bytes, Command, Names, OptionName, PinAction, Repositories, Repository, Texts, usage,
 };
 pub use tl_path::Check;

@@ -2,7 +2,7 @@
 ghost use Rattle.std.specs.Prelude.{◌≡◌, ◌≤◌, [], Some, None, true, false, length, IfOk, IfErr, OnOk, option_map};
 ghost use Rattle.tl_words.specs.Order.{earlier};
 ghost use Rattle.tl_words.specs.Settings.{options_fault, repositories_of, workers_of, user_of};
-ghost use Rattle.tl_words.specs.Faults.{size_fault, action_fault, command_fault, plains, program_parts, session_parts, words_fault, session_fault};
+ghost use Rattle.tl_words.specs.Faults.{size_fault, action_fault, command_fault, plains, program_parts, session_parts, words_fault, session_fault, forbidden_fault};
 ghost use Rattle.tl_words.specs.Commands.{first_action, action_of, IsCommandOf, HasRoot};
 ghost use Rattle.tl_action.specs.Actions.{IsOn};
 ghost use Rattle.tl_action.specs.Texts.{texts};
@@ -11,7 +11,9 @@ ghost use Rattle.tl_words.specs.Errors.{IsErrorOf, IsReadError};
 ghost use Rattle.tl_words.specs.Places.{AreWithin};
 
 use crate::error::{WordKind, WordsError};
-use crate::faults::{Fault, ReadError, asked_fault, earlier_of, has_option, size_fault};
+use crate::faults::{
+    Fault, ReadError, asked_fault, earlier_of, forbidden_fault, has_option, size_fault,
+};
 use crate::parts::PartsIter;
 use crate::plains::PlainsIter;
 use crate::settings::{Settings, read_options};
@@ -130,6 +132,7 @@ pub fn read_words(
     ensures root { IfOk result (HasRoot (texts words.now)) }
     ensures command { IfOk result (IsCommandOf on.now (program_parts (texts words.now))) }
     ensures on { IfOk result (λ command. IsOn on.now command.action) }
+    ensures count { OnOk result (length words.now ≤ 4096) }
     ensures fault { IfErr result (IsErrorOf (words_fault on.now (texts words.now))) }
 {
     let Some(root) = words.first() else {
@@ -148,6 +151,21 @@ pub fn read_words(
             PartsIter::of_program(words),
         ),
         Err(_) => Err(WordsError::NoMemory),
+    }
+}
+
+/// Refuses the program's words where they have an option that isn't carried out, at its first place, kind `Option`. No memory.
+pub fn refuse_option(option: OptionName, words: &[Vec<u8>]) -> Result<(), WordsError>
+    requires { length words.now ≤ 4096 }
+    ensures none { OnOk result (forbidden_fault option (program_parts (texts words.now)) ≡ None) }
+    ensures fault { IfErr result (IsErrorOf (forbidden_fault option (program_parts (texts words.now)))) }
+{
+    if words.is_empty() {
+        return Ok(());
+    }
+    match forbidden_fault(option, PartsIter::of_program(words)) {
+        Some(fault) => Err(refused(fault)),
+        None => Ok(()),
     }
 }
 
