@@ -68,7 +68,7 @@ none_is (Some x) is = absurd (cc)
 pub path_is : (text : Text) → is_path text ≡ true → IsPath text
 path_is text is = none_is (path_fault text) is
 
-less_of : (o : Ordering) → is_lt o ≡ true → o ≡ Less
+pub less_of : (o : Ordering) → is_lt o ≡ true → o ≡ Less
 less_of Less is = refl
 less_of Equal is = absurd (cc)
 less_of Greater is = absurd (cc)
@@ -127,7 +127,7 @@ then_of (Some rest) f next is = (rest, refl, is)
 also : (ls : List Text) (x next : Listed) (items dirs : List Text) → Reached ls x items dirs → x ≡ next → Also ls next
 also ls x next items dirs r is = subst (λ (l : Listed). Also ls l) is (record { items = items; dirs = dirs; reached = r })
 
-known_of : (dirs files : List Text) (dir : Text) → (bytes_eq dir folder || has files dir) ≡ true → IsKnown dirs files dir
+pub known_of : (dirs files : List Text) (dir : Text) → (bytes_eq dir folder || has files dir) ≡ true → IsKnown dirs files dir
 known_of dirs files dir is = by (has files dir) refl (bytes_eq dir folder) refl is
   where
     by : (t : Bool) → has files dir ≡ t → (s : Bool) → bytes_eq dir folder ≡ s → (s || t) ≡ true → IsKnown dirs files dir
@@ -159,7 +159,7 @@ reached_line ls files dir false last line next items dirs r is =
     (also _ _ next items (to ∷ dirs)
     (reached_heading ls files dir last to items dirs r (clear_path to (path_is to parts.0)) (less_of (order dir to) rest.0) (known_of dirs files to known.0)) taken.1)
 
-line_taken_later : (before : ℕ) (listed : Listed) (line : Text) → 2 ≤ before → line_taken before listed line ≡ with_line listed line
+pub line_taken_later : (before : ℕ) (listed : Listed) (line : Text) → 2 ≤ before → line_taken before listed line ≡ with_line listed line
 line_taken_later before listed line late =
     let none : nat_eq before 0 ≡ false = grind (arith, nat_tests) in
     let one : nat_eq before 1 ≡ false = grind (arith, nat_tests) in
@@ -217,7 +217,7 @@ none_above path stands is = true≢false (sym is ∙ ap (λ (cs : List Text). is
     by [] = refl
     by (n ∷ names) = refl
 
-shorter : (dir name : Text) → length dir < length (path_in dir name)
+pub shorter : (dir name : Text) → length dir < length (path_in dir name)
 shorter [] name = omega arith
 shorter (b ∷ dir) name = omega (arith, shorter dir name)
 
@@ -244,7 +244,7 @@ begun_above zero dirs path each stands dir short there is =
 begun_above (suc n) dirs path each stands dir short there is =
     from_dir dirs path dir stands (all_at (IsDir dirs) dir dirs each there) is (λ d lt there' is'. begun_above n dirs path each stands d (omega arith) there' is')
 
-file_stands : (dirs : List Text) (path : Text) → AllByRecursion (IsDir dirs) dirs → IsChild dirs path → Stands path
+pub file_stands : (dirs : List Text) (path : Text) → AllByRecursion (IsDir dirs) dirs → IsChild dirs path → Stands path
 file_stands dirs path each child = subst Stands (sym child.is) (stands_in child.dir child.name (all_at (IsDir dirs) child.dir dirs each child.there).stands child.named)
 
 none_below_file : (ls : List Text) (listed : Listed) (items dirs : List Text) → Reached ls listed items dirs → (a b : Text) → has listed.files a ≡ true → has listed.files b ≡ true → is_below a b ≡ false
@@ -258,7 +258,7 @@ none_below_file ls listed items dirs r a b there there' = by (is_below a b) refl
         absurd (true≢false (sym there' ∙ r.apart b (from_child dirs b a file.child is (λ d lt known is'. begun_above (length d) dirs b r.known stands d (omega arith) known is'))))
     by false is = refl
 
-all_each : (P : Text → Type 0) (xs : List Text) → ((x : Text) → has xs x ≡ true → P x) → AllByRecursion P xs
+pub all_each : (P : Text → Type 0) (xs : List Text) → ((x : Text) → has xs x ≡ true → P x) → AllByRecursion P xs
 all_each P [] f = tt
 all_each P (x ∷ xs) f = (f x (has_itself x xs), all_each P xs (λ y there. f y (ap (λ b. is_at (order y) x || b) there ∙ or_true (is_at (order y) x))))
 
@@ -276,7 +276,7 @@ unfolding IsStrictlySortedBy
 sorted_of [] up = tt
 sorted_of (x ∷ xs) up = (up.0, sorted_of xs up.1)
 
-listable : (ls : List Text) (listed : Listed) (items dirs : List Text) → Reached ls listed items dirs → has listed.files list_path ≡ false → AreListable listed.files
+pub listable : (ls : List Text) (listed : Listed) (items dirs : List Text) → Reached ls listed items dirs → has listed.files list_path ≡ false → AreListable listed.files
 listable ls listed items dirs r none = record {
   form = all_map listed.files (λ f file. file.form) r.files;
   inside = all_map listed.files (λ f file. inside_folder dirs f r.known file.child) r.files;
@@ -287,7 +287,7 @@ listable ls listed items dirs r none = record {
 }
 
 -- the items so far are those of the files
-items_are : (ls files : List Text) (dir last : Text) (items dirs : List Text) → Reached ls (state files dir false last) items dirs → items ≡ all_items files
+pub items_are : (ls files : List Text) (dir last : Text) (items dirs : List Text) → Reached ls (state files dir false last) items dirs → items ≡ all_items files
 items_are ls files dir last items dirs r =
     same_lists items (all_items files) r.up (up-items files) (λ w. r.sets w ∙ or_false (list_any (λ f. has (items_of f) w) files) ∙ sym (any-items (is_at (order w)) files))
 

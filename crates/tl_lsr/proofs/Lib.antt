@@ -3,5 +3,9 @@ pub mod TextLemmas
 pub mod TakeLemmas
 pub mod SetLemmas
 pub mod ItemLemmas
+pub mod PathLemmas
 pub mod ReachLemmas
 pub mod AcceptLemmas
+pub mod EntryLemmas
+pub mod TakenLemmas
+pub mod WrittenLemmas

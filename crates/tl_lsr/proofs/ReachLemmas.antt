@@ -138,6 +138,7 @@ pub record IsFile (dirs : List Text) (path : Text) : Type 0 where
 
 pub record IsDir (dirs : List Text) (dir : Text) : Type 0 where
   pub stands : Stands dir
+  pub clear : IsClear dir
   pub from : (dir ≡ folder) ⊎ IsChild dirs dir
 
 child_on : (next : Text) (dirs : List Text) (path : Text) → IsChild dirs path → IsChild (next ∷ dirs) path
@@ -259,7 +260,7 @@ reached_end lines files dir b last items dirs r = record {
 apart_eq : (a b : Text) → order b a ≡ Less → bytes_eq a b ≡ false
 apart_eq a b lt = texts_ties a b ∙ ap is_eq (nat_list_cmp_total.antisymm a b ∙ ap ordering_reverse lt)
 
-same_eq : (a : Text) → bytes_eq a a ≡ true
+pub same_eq : (a : Text) → bytes_eq a a ≡ true
 same_eq a = texts_ties a a ∙ ap is_eq (tied_itself nat_list_cmp_total a)
 
 turn_is : (last before dir : Text) → IsLastDir true last before dir → turning before dir ≡ behind_body true last before dir
@@ -359,16 +360,16 @@ or_comm true false = refl
 or_comm false true = refl
 or_comm false false = refl
 
-dir_begun : (dir : Text) (dirs files : List Text) → AllByRecursion (IsFile dirs) files → AllByRecursion (IsDir dirs) dirs → IsKnown dirs files dir → IsDir (dir ∷ dirs) dir
-dir_begun dir dirs files each each' (known_folder is none) = record { stands = subst Stands (sym is) stands_folder; from = inl is }
-dir_begun dir dirs files each each' (known_file there) =
+dir_begun : (dir : Text) (dirs files : List Text) → IsClear dir → AllByRecursion (IsFile dirs) files → AllByRecursion (IsDir dirs) dirs → IsKnown dirs files dir → IsDir (dir ∷ dirs) dir
+dir_begun dir dirs files clear each each' (known_folder is none) = record { stands = subst Stands (sym is) stands_folder; clear = clear; from = inl is }
+dir_begun dir dirs files clear each each' (known_file there) =
     let file = all_at (IsFile dirs) dir files each there in
     let child = file.child in
     let parent = all_at (IsDir dirs) child.dir dirs each' child.there in
-    record { stands = subst Stands (sym child.is) (stands_in child.dir child.name parent.stands child.named); from = inr (child_on dir dirs dir child) }
+    record { stands = subst Stands (sym child.is) (stands_in child.dir child.name parent.stands child.named); clear = clear; from = inr (child_on dir dirs dir child) }
 
 dir_on : (next : Text) (dirs : List Text) (d : Text) → IsDir dirs d → IsDir (next ∷ dirs) d
-dir_on next dirs d known = record { stands = known.stands; from = by known.from }
+dir_on next dirs d known = record { stands = known.stands; clear = known.clear; from = by known.from }
   where
     by : (d ≡ folder) ⊎ IsChild dirs d → (d ≡ folder) ⊎ IsChild (next ∷ dirs) d
     by (inl is) = inl is
@@ -396,11 +397,11 @@ reached_heading lines files dir last next items dirs r clear lt known = record {
   sets = λ w.
       r.sets w ∙ ap (λ t. t || false) (moved w dirs files next known) ∙ or_comm (has (items_of next) w) (list_any (λ f. has (items_of f) w) (remove_key (is_at (order next)) files));
   files = all-remove (IsFile (next ∷ dirs)) next files (all_map files (λ f file. record { form = file.form; child = child_on next dirs f file.child }) r.files);
-  known = (dir_begun next dirs files r.files r.known known, all_map dirs (dir_on next dirs) r.known);
+  known = (dir_begun next dirs files clear r.files r.known known, all_map dirs (dir_on next dirs) r.known);
   dirs_below = (inr refl, all_map dirs (λ d before. below_next d before) r.dirs_below);
   apart = λ w there. still_apart w next dirs files r.up_files r.apart there;
   up_files = up-remove next files r.up_files;
-  begun = record { stands = (dir_begun next dirs files r.files r.known known).stands; there = has_itself next dirs; ends = closing_is dir next lt };
+  begun = record { stands = (dir_begun next dirs files clear r.files r.known known).stands; there = has_itself next dirs; ends = closing_is dir next lt };
 }
   where
     below_next : (d : Text) → (order d dir ≡ Less) ⊎ (d ≡ dir) → (order d next ≡ Less) ⊎ (d ≡ next)

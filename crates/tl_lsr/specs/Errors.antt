@@ -13,7 +13,13 @@ IsLsrErrorOf text (BadLsr line) = lsr_read text ≡ Err line
 IsLsrErrorOf text NoMemory = Unit {0}
 
 -- lines list nothing: that is the first one that can't stand there; want of memory has no cause in them
-abbrev pub IsStop : Result Listed ℕ → LsrError → Type 0
-IsStop taken (TooLarge what limit) = ⊥
-IsStop taken (BadLsr line) = (before : ℕ) × (taken ≡ Err before) × (line ≡ before + 1)
-IsStop taken NoMemory = Unit {0}
+abbrev pub IsTakenFault : Result Listed ℕ → LsrError → Type 0
+IsTakenFault taken (TooLarge what limit) = ⊥
+IsTakenFault taken (BadLsr line) = (before : ℕ) × (taken ≡ Err before) × (line ≡ before + 1)
+IsTakenFault taken NoMemory = Unit {0}
+
+-- an error whose cause isn't in the lines
+abbrev pub IsNoLine : LsrError → Type 0
+IsNoLine (TooLarge what limit) = Unit {0}
+IsNoLine (BadLsr line) = ⊥
+IsNoLine NoMemory = Unit {0}

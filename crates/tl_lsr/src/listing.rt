@@ -1,10 +1,10 @@
 //! The paths that a text lists.
-ghost use Rattle.std.specs.Prelude.{◌≡◌, ◌≤◌, ◌&&◌, ◌∷◌, [], Ok, IfOk, MatchResult, length, bytes_eq, nat_eq, nat_le};
+ghost use Rattle.std.specs.Prelude.{◌≡◌, List, ℕ, ◌≤◌, ◌&&◌, ◌∷◌, [], Ok, IfOk, MatchResult, length, bytes_eq, nat_eq, nat_le};
 ghost use Rattle.std.specs.List.{ends_with};
 ghost use Rattle.tl_model.specs.Lines.{lines};
 ghost use Rattle.tl_lsr.specs.Lists.{lsr_text, AreListable};
 ghost use Rattle.tl_lsr.specs.Reading.{lsr_read, base_name, paths_named, lines_taken, may_end};
-ghost use Rattle.tl_lsr.specs.Errors.{IsLsrErrorOf, IsStop};
+ghost use Rattle.tl_lsr.specs.Errors.{IsLsrErrorOf, IsTakenFault, IsNoLine};
 
 use crate::cut::cut_line;
 use crate::error::LsrError;
@@ -58,7 +58,7 @@ impl Lsr {
 fn take_lines(alloc: Global, reader: &mut Reader, text: &[u8]) -> Result<u32, LsrError>
     requires { length text.now ≤ 268435456 }
     ensures { MatchResult result (λ count. (lines_taken 0 reader.old (lines text.now) ≡ Ok reader.new)
-        × (count ≡ length (lines text.now)) × (count ≤ length text.now)) (IsStop (lines_taken 0 reader.old (lines text.now))) }
+        × (count ≡ length (lines text.now)) × (count ≤ length text.now)) (IsTakenFault (lines_taken 0 reader.old (lines text.now))) }
 {
     let mut rest = text;
     let mut before = 0;
@@ -100,6 +100,7 @@ fn read_lines(alloc: Global, text: &[u8]) -> Result<Lsr, LsrError>
 pub fn read(alloc: Global, text: &[u8]) -> Result<Lsr, LsrError>
     ensures read { MatchResult result (λ lsr. lsr_read text.now ≡ Ok lsr) (IsLsrErrorOf text.now) }
     ensures listed { IfOk result (λ lsr. (text.now ≡ lsr_text lsr) × AreListable lsr) }
+    ensures complete { (paths : List (List ℕ)) → AreListable paths → text.now ≡ lsr_text paths → MatchResult result (λ lsr. lsr ≡ paths) IsNoLine }
 {
     if text.len() as u64 > What::Database.limit() {
         return Err(LsrError::TooLarge {
