@@ -1,0 +1,5 @@
+mod ReadLemmas
+mod FormLemmas
+mod PlatformLemmas
+mod FollowLemmas
+mod WriteLemmas
