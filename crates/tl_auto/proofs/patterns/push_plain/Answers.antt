@@ -1,0 +1,4 @@
+use Rattle.tl_auto.proofs.patterns.push_plain.Goals as goal
+
+pub returns : goal.returns
+returns c = c.push_each.ensures

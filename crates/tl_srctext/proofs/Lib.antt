@@ -1,0 +1,15 @@
+mod JoinLemmas
+mod PlatformLemmas
+mod LineLemmas
+mod ReadingLemmas
+mod WriteLemmas
+mod TextLemmas
+mod SaysLemmas
+mod AgainLemmas
+mod ValueLemmas
+mod PatternLemmas
+mod RoundTrip
+mod TrimLemmas
+mod VarsLemmas
+mod GivenLemmas
+mod SourceLemmas

@@ -1,0 +1,12 @@
+pub mod Joined
+pub mod Content
+pub mod Keys
+pub mod Variables
+pub mod Patterns
+pub mod Line
+pub mod Reading
+pub mod Errors
+pub mod Steps
+pub mod Writing
+pub mod Formed
+pub mod Again
