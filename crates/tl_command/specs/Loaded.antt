@@ -9,7 +9,9 @@ use Rattle.tl_kind.specs.declared.quantity.What.{What}
 use Rattle.tl_journal_text.specs.Stand.{stand, tree_of}
 use Rattle.tl_db.specs.Reading.{IsRead}
 use Rattle.tl_db.specs.Canonical.{IsRewritten}
+use Rattle.tl_journal.specs.Spent.{Stages}
 use Rattle.tl_tree.specs.Planted.{Planted, database_text}
+use Rattle.tl_tree.specs.Opened.{Opened, begun, given}
 use Rattle.tl_tree.specs.Changes.{entries_after, changed}
 use Rattle.tl_tree.specs.Answers.{IsAllowed}
 use Rattle.tl_tree.specs.Packages.{ReplacesWhole}
@@ -42,3 +44,13 @@ pub record Steps (tells : Bool) (parts : List Part) (label : List ℕ) (old new 
   pub db : new.db ≡ entries_after parts old.db
   pub allowed : IsAllowed old parts
   pub packages : Told tells (ReplacesWhole old.db parts (tree_of old.seen.present.held) new.db (tree_of new.seen.present.held))
+
+-- a step of a tree was opened: the database that it will leave is within its limits, no file of it has been given yet, and nothing else was
+-- done; where the host tells, the volume stands for its tree, and each picture since for the same
+pub record Opens (tells : Bool) (parts : List Part) (label : List ℕ) (old : Planted) (step : Opened) : Type 0 where
+  pub begins : step ≡ begun old parts label step.seen
+  pub given_none : Told tells (given step ≡ [])
+  pub allowed : IsAllowed old parts
+  pub stands : Told tells (stand old.seen.present.held ≡ Some (tree_of old.seen.present.held))
+  pub stages : Told tells (Stages old.seen step.seen)
+  pub later : old.seen.faults ≤ step.seen.faults
