@@ -1,0 +1,4 @@
+pub mod Containers
+pub mod Fetching
+pub mod Sinks
+pub mod Unpacked

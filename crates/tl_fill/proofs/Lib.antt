@@ -1,0 +1,5 @@
+pub mod EndLemmas
+pub mod FetchingLemmas
+pub mod PathLemmas
+pub mod SinkLemmas
+pub mod StepLemmas
