@@ -5,3 +5,7 @@ pub mod ClaimLemmas
 pub mod ClashLemmas
 pub mod MissingLemmas
 pub mod DependLemmas
+pub mod NamedLines
+pub mod OfferLines
+pub mod ByteLemmas
+pub mod ViewLemmas

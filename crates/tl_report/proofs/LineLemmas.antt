@@ -20,7 +20,7 @@ both true b is = (refl, is)
 both false b is = absurd (cc)
 
 -- bytes that all pass a test which the line end doesn't pass
-line_of_all : (p : ℕ → Bool) → p 10 ≡ false → (bytes : List ℕ) → list_all p bytes ≡ true → IsLine bytes
+pub line_of_all : (p : ℕ → Bool) → p 10 ≡ false → (bytes : List ℕ) → list_all p bytes ≡ true → IsLine bytes
 line_of_all p not_end [] is = All-nil (λ b. (b == 10) ≡ false)
 line_of_all p not_end (b ∷ bytes) is =
     let parts = both (p b) (list_all p bytes) is in

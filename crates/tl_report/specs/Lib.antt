@@ -5,3 +5,7 @@ pub mod Depends
 pub mod Duplicates
 pub mod Executes
 pub mod Check
+pub mod View
+pub mod Info
+pub mod Search
+pub mod Offers

@@ -1,5 +1,5 @@
 //! The lines of a report on what is wrong with a tree.
-ghost use Rattle.std.specs.Prelude.{◌≡◌, [], ◌++◌, ◌∷◌, string_bytes, map, IfOk, OnOk};
+ghost use Rattle.std.specs.Prelude.{◌≡◌, ◌==◌, [], ◌++◌, ◌∷◌, length, string_bytes, map, IfOk, OnOk};
 ghost use Rattle.tl_model.specs.Acks.{IsPlain};
 ghost use Rattle.tl_model.specs.Lines.{IsLine, text_of};
 ghost use Rattle.tl_entry.specs.FilePaths.{rising_of};
@@ -88,6 +88,30 @@ impl Lines {
         let line = line_of(alloc, finding, thing, about)?;
         self.items.push(line)?;
         Ok(())
+    }
+
+    /// Adds a line that is whole and no acknowledgement.
+    pub(crate) fn add(&mut self, line: String) -> Result<(), AllocError>
+        requires { IsReportLine (string_bytes line) }
+        ensures { OnOk result (self.new ≡ self.old ++ string_bytes line ∷ []) }
+    {
+        self.items.push(line)?;
+        Ok(())
+    }
+
+    /// Whether there is no line. Takes no memory.
+    pub(crate) fn is_empty(&self) -> bool
+        ensures { result ≡ (length self.now == 0) }
+    {
+        self.items.is_empty()
+    }
+
+    /// The lines as a text, in the order in which they were added.
+    pub(crate) fn to_text(&self, alloc: Global) -> Result<Vec<u8>, AllocError>
+        ensures text { IfOk result (λ text. text.items ≡ text_of self.now) }
+        ensures plain { IfOk result (λ text. IsPlain text.items) }
+    {
+        text_of(alloc, &self.items)
     }
 
     /// The lines as a text, in the order of their bytes, each once. n lines cost n log n comparisons.

@@ -1,1 +1,2 @@
 pub mod PathLines
+pub mod OpenLemmas
