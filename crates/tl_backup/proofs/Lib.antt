@@ -1,4 +1,9 @@
+pub mod Adding
+pub mod Apart
+pub mod Changing
+pub mod Installed
 pub mod Keys
 pub mod Making
 pub mod Orders
+pub mod PathLaws
 pub mod Walks

@@ -154,7 +154,7 @@ long_frame text files long =
     let past : 1073741824 < length (frame text files) = elim long [ inl l ↦ omega (arith, l, size) | inr l ↦ omega (arith, l, many, size) ] in
     ap (λ b. cond b (Err (TooLarge Frame 1073741824)) (Ok (frame text files))) (lt-ltb 1073741824 (length (frame text files)) past)
 
-drop_one : {X : Type 0} (xs : List X) (i : ℕ) (d : X) → i < length xs → drop i xs ≡ get_or xs i d ∷ drop (i + 1) xs
+pub drop_one : {X : Type 0} (xs : List X) (i : ℕ) (d : X) → i < length xs → drop i xs ≡ get_or xs i d ∷ drop (i + 1) xs
 drop_one xs i d within = rw add-one (drop-cons xs i d within)
 
 -- a call that asks a tree

@@ -1,20 +1,24 @@
 -- A walk over the names of a tree.
-use Rattle.std.proofs.Common.{◌≡◌, ◌<◌, ◌≤◌, ◌+◌, ℕ, cond, List, [], ◌∷◌, ◌++◌, length, Option, Some, None, Result, Ok, Err, refl, sym, ap, subst, ◌∙◌, arith, inl, inr}
+use Rattle.std.proofs.Common.{◌≡◌, ◌<◌, ◌≤◌, ◌+◌, ◌⊎◌, ℕ, Bool, true, false, cond, List, [], ◌∷◌, ◌++◌, length, Option, Some, None, Result, Ok, Err, refl, sym, ap, subst, ◌∙◌, arith, inl, inr}
 use Rattle.std.specs.Prelude.{filter, nat_lt}
-use Rattle.std.specs.List.{filter_map}
+use Rattle.std.specs.List.{AllByRecursion, cons_option, filter_map}
+use Rattle.std.specs.Ordering.{is_eq}
+use Rattle.std.specs.Cmp.Lexicographic.{nat_list_cmp_total}
 use Rattle.std.specs.FinMap.{keys}
-use Rattle.std.proofs.lemmas.Bool.{cases_Bool, lt-ltb, ltb-true}
+use Rattle.std.proofs.lemmas.Bool.{cases_Bool, true≢false, lt-ltb, ltb-true}
 use Rattle.std.proofs.lemmas.List.{append-nil, append_assoc, length-append}
 use Rattle.std.proofs.lemmas.List.Elements.{filter-append, filter_map-append}
-use Rattle.tl_model.specs.Volume.{Name, Volume, IsNext}
+use Rattle.tl_model.specs.Volume.{Name, Volume, IsAfter, IsBefore, IsNext, same_name-refl}
 use Rattle.tl_kind.specs.declared.quantity.What.TheVariants.{Files}
-use Rattle.tl_backup.specs.Files.{backup_at, backup_cmp}
+use Rattle.tl_backup.specs.Files.{backup_at, backup_cmp, backup_path}
 use Rattle.tl_backup.specs.Listed.{is_wanted, backups_at, within_files, listed}
-use Rattle.tl_backup.specs.Ordered.{in_order}
+use Rattle.tl_backup.specs.Ordered.{AreDifferent, in_order}
 use Rattle.tl_backup.specs.declared.names.Backup.{Backup}
 use Rattle.tl_backup.specs.declared.error.BackupError.{BackupError}
 use Rattle.tl_backup.specs.declared.error.BackupError.TheVariants.{TooLarge}
+use Rattle.tl_backup.proofs.Apart.{all_append, all_weaker, apart-append}
 use Rattle.tl_backup.proofs.Keys.{last_of, next_key}
+use Rattle.tl_backup.proofs.PathLaws.{path-at}
 
 -- so many names of a tree were seen, up to the last
 pub record HasSeen (tree : Volume) (number : ℕ) (last : Option Name) : Type 0 where
@@ -91,3 +95,53 @@ list_end name tree number last found has few next =
     let all = walk_end tree number last has.walk next in
     let count : length (keys tree) ≡ number = ap length all ∙ has.walk.count in
     few_files tree _ (omega (arith, count, few)) ∙ ap (λ (l : List Name). Ok (in_order backup_cmp (backups_at name l))) all ∙ ap (λ (l : List Backup). Ok (in_order backup_cmp l)) (sym has.found_all)
+
+-- ---- backups that were listed are at different paths
+
+-- a name is the last one, or before it
+abbrev IsUpTo : Option Name → Name → Type 0
+IsUpTo None name = ⊥
+IsUpTo (Some last) name = (name ≡ last) ⊎ IsBefore name last
+
+-- no two backups are one, and the path of none is behind the last name
+pub record HasRisen (last : Option Name) (found : List Backup) : Type 0 where
+  pub apart : AreDifferent found
+  pub within : AllByRecursion (λ (b : Backup). IsUpTo last (backup_path b.name b.revision)) found
+
+pub risen_start : HasRisen None []
+risen_start = record { apart = tt; within = tt }
+
+up_to : (last : Option Name) (path name : Name) → IsAfter last path → IsUpTo last name → IsBefore name path
+up_to None path name after within = absurd within
+up_to (Some last) path name after (inl same) = subst (λ (n : Name). IsBefore n path) (sym same) after
+up_to (Some last) path name after (inr before) = nat_list_cmp_total.trans name last path before after
+
+not_itself : (name : Name) → IsBefore name name → ⊥
+not_itself name before = true≢false (sym (same_name-refl name) ∙ ap is_eq before)
+
+module _ (name last : Option Name) (found : List Backup) (path : Name) (has : HasRisen last found) (after : IsAfter last path) where
+  before : AllByRecursion (λ (b : Backup). IsBefore (backup_path b.name b.revision) path) found
+  before = all_weaker _ _ (λ (b : Backup) within. up_to last path (backup_path b.name b.revision) after within) found has.within
+
+  grown : HasRisen (Some path) found
+  grown = record { apart = has.apart; within = all_weaker _ _ (λ (b : Backup) is. inr is) found before }
+
+  pushed : (backup : Backup) → backup_at path ≡ Some backup → HasRisen (Some path) (found ++ backup ∷ [])
+  pushed backup is =
+      let at : backup_path backup.name backup.revision ≡ path = sym (path-at path backup is) in record {
+        apart = apart-append found (backup ∷ []) has.apart (tt, tt)
+            (all_weaker _ _ (λ (b : Backup) earlier. ((λ same. not_itself path (subst (λ (n : Name). IsBefore n path) (ap (λ (o : Backup). backup_path o.name o.revision) same ∙ at) earlier)), tt)) found before);
+        within = all_append _ found (backup ∷ []) grown.within (inl at, tt);
+      }
+
+  by_test : (backup : Backup) → backup_at path ≡ Some backup → (wanted : Bool) → HasRisen (Some path) (found ++ cond wanted (backup ∷ []) [])
+  by_test backup is true = pushed backup is
+  by_test backup is false = subst (HasRisen (Some path)) (sym (append-nil found)) grown
+
+  by_path : (backup : Option Backup) → backup_at path ≡ backup → HasRisen (Some path) (found ++ filter (is_wanted name) (cons_option backup []))
+  by_path None is = subst (HasRisen (Some path)) (sym (append-nil found)) grown
+  by_path (Some backup) is = by_test backup is (is_wanted name backup)
+
+  -- the next name is seen
+  pub risen_step : (more : List Backup) → more ≡ found ++ backups_at name (path ∷ []) → HasRisen (Some path) more
+  risen_step more is = subst (HasRisen (Some path)) (sym is) (by_path (backup_at path) refl)

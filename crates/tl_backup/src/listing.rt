@@ -1,10 +1,11 @@
 //! The backups of a tree.
-ghost use Rattle.std.specs.Prelude.{◌≡◌, ◌++◌, [], ◌∷◌, IfOk, IfErr, OnOk};
+ghost use Rattle.std.specs.Prelude.{◌≡◌, ◌++◌, [], ◌∷◌, IfOk, IfErr, IfSome, OnOk};
 ghost use Rattle.std.specs.Option.{option_copied};
 ghost use Rattle.tl_model.specs.Seen.{Told};
-ghost use Rattle.tl_model.specs.Volume.{IsNext};
+ghost use Rattle.tl_model.specs.Volume.{IsAfter, IsNext};
 ghost use Rattle.tl_backup.specs.Asked.{Answers, IsAsked, IsCausedBy, IsFree, tree_in};
 ghost use Rattle.tl_backup.specs.Listed.{backups_at, is_wanted, listed};
+ghost use Rattle.tl_backup.specs.Ordered.{AreDifferent};
 
 use crate::error::BackupError;
 use crate::names::{Backup, backup_at};
@@ -23,6 +24,7 @@ pub(crate) fn next_path<H: Host>(
     after: &Option<Path>,
 ) -> Result<Option<Path>, BackupError>
     ensures next { Told H.tells (IfOk result (λ found. IsNext (tree_in tree.old) after.now found)) }
+    ensures behind { IfOk result (λ found. IfSome found (λ path. IsAfter after.now path)) }
     ensures fault { IfErr result IsFree }
     ensures asked { IsAsked H.tells tree.old tree.new }
     ensures cause { IfErr result (IsCausedBy tree.old tree.new) }
@@ -74,6 +76,7 @@ pub fn list<H: Host>(
     name: Option<&Name>,
 ) -> Result<Vec<Backup>, BackupError>
     ensures list { Told H.tells (Answers (λ found. found.items) result (listed (option_copied name.entry) (tree_in tree.old))) }
+    ensures apart { IfOk result (λ found. AreDifferent found.items) }
     ensures asked { IsAsked H.tells tree.old tree.new }
     ensures cause { IfErr result (IsCausedBy tree.old tree.new) }
 {

@@ -1,11 +1,13 @@
 //! The making of a backup.
-ghost use Rattle.std.specs.Prelude.{◌≡◌, ◌++◌, ◌∷◌, [], OnOk, map, true, IfOk, IfErr};
+ghost use Rattle.std.specs.Prelude.{◌≡◌, ◌++◌, ◌∷◌, [], OnOk, Some, map, true, IfOk, IfErr};
 ghost use Rattle.std.specs.Option.{option_copied};
 ghost use Rattle.tl_model.specs.Causes.{Rose};
 ghost use Rattle.tl_model.specs.Seen.{Told};
 ghost use Rattle.tl_entry.specs.Rising.{is_rising};
 ghost use Rattle.tl_frame.specs.Frames.{paths_rise};
 ghost use Rattle.tl_backup.specs.Asked.{Answers, IsAsked, IsCausedBy, tree_in};
+ghost use Rattle.tl_backup.specs.Autobackup.{revision_at};
+ghost use Rattle.tl_backup.specs.Form.{backup_by, installed};
 ghost use Rattle.tl_backup.specs.Frames.{IsBackupPart, backup_bytes, files_at, frame_within, missing_path, own_paths, package_backup};
 
 use crate::error::BackupError;
@@ -145,6 +147,7 @@ fn backup_bytes<H: Host>(
 pub fn backup<H: Host>(alloc: Global, tree: &mut Tree<H>, name: &Name) -> Result<Part, BackupError>
     ensures part { Told H.tells (Answers (λ part. part) result (package_backup name.now tree.old.db (tree_in tree.old))) }
     ensures form { IfOk result (IsBackupPart name.now tree.old.db) }
+    ensures named { IfOk result (λ part. backup_by part ≡ Some (installed (revision_at tree.old.db) name.now)) }
     ensures asked { IsAsked H.tells tree.old tree.new }
     ensures cause { IfErr result (IsCausedBy tree.old tree.new) }
 {

@@ -1,5 +1,5 @@
 //! Which file of a tree is a backup.
-ghost use Rattle.std.specs.Prelude.{◌≡◌, ◌<◌, IfOk, filter};
+ghost use Rattle.std.specs.Prelude.{◌≡◌, ◌<◌, IfOk, Some, filter};
 ghost use Rattle.std.specs.Char.{is_ascii_digit};
 ghost use Rattle.std.specs.List.{suffix_len};
 ghost use Rattle.std.specs.Option.{option_copied};
@@ -130,10 +130,12 @@ pub fn pruned(
     Ok(others)
 }
 
-/// The path of a backup of a package at a revision.
+/// The path of a backup of a package at a revision. It is the name of that backup and of no other.
 pub fn backup_path(alloc: Global, name: &Name, revision: u32) -> Result<Path, AllocError>
-    ensures { IfOk result (λ path. path ≡ backup_path name.now revision) }
+    ensures path { IfOk result (λ path. path ≡ backup_path name.now revision) }
+    ensures named { IfOk result (λ path. backup_at path ≡ Some (record { name = name.now; revision = revision })) }
 {
+    let name = name.text();
     let text = format!(in alloc; "tlpkg/backups/{name}.r{revision}.tlc")?;
     match Path::parse(alloc, text.as_bytes()) {
         Ok(path) => Ok(path),

@@ -1,22 +1,17 @@
 -- The steps of a removal are labelled.
-use Rattle.std.proofs.Common.{◌≡◌, ◌<◌, ◌≤◌, ◌+◌, ◌*◌, ◌^◌, ◌==◌, ℕ, Bool, true, false, cond, nat_lt, List, [], ◌∷◌, ◌++◌, length, map, filter, Result, Ok, Err, refl, sym, subst, ◌∙◌, arith}
+use Rattle.std.proofs.Common.{◌≡◌, ◌<◌, ◌≤◌, ◌+◌, ◌*◌, ◌^◌, ◌==◌, ℕ, Bool, true, false, cond, List, [], ◌∷◌, ◌++◌, length, map, filter, Result, Ok, Err, refl, sym, subst, ◌∙◌, arith}
 use Rattle.std.specs.Prelude.{codes}
 use mathlib.Core.List.{reverse_aux}
-use Rattle.std.proofs.lemmas.Bool.{ltb-false}
 use Rattle.std.proofs.lemmas.List.{length-append, length-map, length-reverse}
 use Rattle.std.proofs.lemmas.List.Elements.{All-nil, All-append}
 use Rattle.tl_model.specs.Lines.{IsLine}
 use Rattle.tl_model.specs.Volume.{Volume}
-use Rattle.tl_kind.specs.Quantities.{limit_of}
-use Rattle.tl_kind.specs.declared.quantity.What.TheVariants as what
 use Rattle.tl_entry.specs.FilePaths.{rising_of}
 use Rattle.tl_entry.specs.Rising.{comes_before, insert_by, has_key}
 use Rattle.tl_entry.specs.declared.object.Object.{Object}
-use Rattle.tl_object.specs.declared.fault.LineKind.{LineKind}
 use Rattle.tl_object.proofs.PlainLemmas.{line_tested}
-use Rattle.tl_db.specs.Reading.{db_of}
 use Rattle.tl_tree.specs.Planted.{database_text}
-use Rattle.tl_tree.specs.Changes.{entries_after, changed}
+use Rattle.tl_tree.specs.Changes.{entries_after}
 use Rattle.tl_plan.specs.Plans.{install_order, plan_steps}
 use Rattle.tl_plan.specs.Removal.{removal_of, removal_order, removal_fault, leaving_names}
 use Rattle.tl_plan.specs.declared.planned.Planned.{Planned}
@@ -24,13 +19,16 @@ use Rattle.tl_plan.specs.declared.planned.Planned.TheVariants.{Remove}
 use Rattle.tl_plan.specs.declared.error.PlanError.{PlanError}
 use Rattle.tl_plan.specs.declared.error.PlanError.TheVariants as plans
 use Rattle.tl_plan.proofs.PlanLaws.{removes_alone}
-use Rattle.tl_command.specs.Runs.{Run, AreLabelled, refused, over_entries, over_database}
+use Rattle.tl_backup.specs.Autobackup.{autobackup}
+use Rattle.tl_command.specs.Labels.{step_label}
+use Rattle.tl_command.specs.Runs.{AreLabelled, over_database}
 use Rattle.tl_command.specs.Steps.{running}
 use Rattle.tl_command.proofs.LabelLaws.{label-step}
 use Rattle.tl_command.proofs.Limits.{labelled-leaving}
-use Rattle.tl_refusal.specs.declared.refusal.Refusal.TheVariants.{TooLarge}
-use Rattle.tl_packages.specs.Remove.{parts_of, plan_step, numbered, at_end, plan_made, plan_run, remove_run, changes_text}
-use Rattle.tl_packages.proofs.Named.{AreNamed, read_named}
+use Rattle.tl_packages.specs.Remove.{parts_of, plan_step, numbered, at_end, plan_made, plan_run, remove_run, changes_text, step_adding}
+use Rattle.tl_packages.proofs.Adding.{labelled-adding}
+use Rattle.tl_backups.proofs.Named.{AreNamed, read_named}
+use Rattle.tl_backups.proofs.ReadLabels.{labelled-read}
 use Rattle.tl_packages.proofs.PlanLaws.{steps_of}
 
 -- some texts, each one line
@@ -136,8 +134,12 @@ labelled-steps : (count : ℕ) (names : List (List ℕ)) (from : ℕ) → AreLin
 labelled-steps count [] from are small below db tree = tt
 labelled-steps count (name ∷ names) from are small below db tree =
     let parts = parts_of (Remove name ∷ []) in
-    labelled-leaving (entries_after parts db) _
-    (label-step from count (changes_text (Remove name ∷ [])) (omega (arith, below)) small (called name are.0), labelled-steps count names (from + 1) are.1 small (omega (arith, below)) (entries_after parts db) (changed db parts tree))
+    let label = step_label from count (changes_text (Remove name ∷ [])) in
+    let rest = running (plan_step count) (numbered (from + 1) (map (λ (name : List ℕ). Remove name ∷ []) names)) at_end in
+    labelled-leaving (entries_after parts db) (step_adding (autobackup (name ∷ []) db tree) parts label rest db tree)
+    (labelled-adding (autobackup (name ∷ []) db tree) parts label rest db tree
+    (label-step from count (changes_text (Remove name ∷ [])) (omega (arith, below)) small (called name are.0))
+    (λ next. labelled-steps count names (from + 1) are.1 small (omega (arith, below)) (entries_after parts db) next))
 
 labelled-plan : (db : List Object) (names : List (List ℕ)) (force : Bool) (tree : Volume) → AreNamed db → length db ≤ 65536 → AreLabelled (remove_run names force tree db).events
 labelled-plan db names force tree are few = by (removal_of db names force) refl
@@ -157,26 +159,6 @@ labelled-plan db names force tree are few = by (removal_of db names force) refl
     by (Err (plans.NotInstalled name)) is = tt
     by (Err (plans.Needed name other)) is = tt
     by (Err plans.NoMemory) is = tt
-
-not_past : (n : ℕ) → nat_lt (limit_of what.Packages) n ≡ false → n ≤ 65536
-not_past n is = ltb-false 65536 n is
-
--- the steps of a run over a database are labelled where those over the entries that it reads as are
-labelled-read : (go : List Object → Run) (text : List ℕ) → ((db : List Object) → db_of text ≡ Ok db → length db ≤ 65536 → AreLabelled (go db).events) → AreLabelled (over_database go text).events
-labelled-read go text each = by (nat_lt (limit_of what.Database) (length text))
-  where
-    within : (db : List Object) → db_of text ≡ Ok db → (past : Bool) → nat_lt (limit_of what.Packages) (length db) ≡ past
-        → let run = cond past (refused (TooLarge what.Packages (limit_of what.Packages))) (go db) in AreLabelled run.events
-    within db is true past = tt
-    within db is false past = each db is (not_past (length db) past)
-
-    entries : (read : Result (List Object) (ℕ × LineKind)) → db_of text ≡ read → AreLabelled (over_entries go read).events
-    entries (Ok db) is = within db is (nat_lt (limit_of what.Packages) (length db)) refl
-    entries (Err fault) is = tt
-
-    by : (past : Bool) → let run = cond past (refused (TooLarge what.Database (limit_of what.Database))) (over_entries go (db_of text)) in AreLabelled run.events
-    by true = tt
-    by false = entries (db_of text) refl
 
 -- the steps of a removal are labelled
 pub labelled-remove : (names : List (List ℕ)) (force : Bool) (tree : Volume) → AreLabelled (over_database (remove_run names force tree) (database_text tree)).events

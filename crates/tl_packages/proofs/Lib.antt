@@ -1,3 +1,3 @@
+pub mod Adding
 pub mod Labels
-pub mod Named
 pub mod PlanLaws

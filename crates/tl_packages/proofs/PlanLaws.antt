@@ -1,22 +1,25 @@
 -- The steps of a plan: what each is called, and how they make the run of the plan.
 use Rattle.std.proofs.Common.{◌≡◌, ◌<◌, ◌+◌, ◌==◌, ℕ, zero, suc, Bool, true, false, List, [], ◌∷◌, ◌++◌, Option, Some, None, Result, Ok, Err, length, get_or, take, drop, map, refl, sym, ap, subst, ◌∙◌, arith}
 use Rattle.std.specs.Prelude.{codes, All}
-use Rattle.std.specs.List.{flat_map}
-use Rattle.std.proofs.lemmas.List.{drop_more, append_assoc, flat_map_more, take_more}
+use Rattle.std.specs.List.{flat_map, AllByRecursion, IsDistinct}
+use Rattle.std.proofs.lemmas.List.{drop_more, append_assoc, flat_map_more, map-append, take_more}
 use Rattle.std.proofs.lemmas.List.Elements.{All-nil, All-cons, All-append}
 use Rattle.tl_model.specs.Acks.{IsLabel}
 use Rattle.tl_model.specs.Lines.{IsLine}
 use Rattle.tl_model.specs.Seen.{Seen}
-use Rattle.tl_model.specs.Volume.{Volume}
+use Rattle.tl_model.specs.Volume.{Volume, same_name}
 use Rattle.tl_entry.specs.declared.object.Object.{Object}
 use Rattle.tl_tree.specs.Planted.{Planted}
-use Rattle.tl_tree.specs.Changes.{entries_after, changed}
-use Rattle.tl_tree.specs.Conditions.{IsChange, has_later}
+use Rattle.tl_tree.specs.Changes.{entries_after, entries_by, has_entries}
+use Rattle.tl_tree.specs.Conditions.{IsChange, has_later, spoken_paths}
 use Rattle.tl_tree.specs.declared.change.Part.{Part}
 use Rattle.tl_tree.proofs.Distinct.{once-cons, once-nil}
 use Rattle.tl_object.proofs.PlainLemmas.{line_tested}
 use Rattle.tl_refusal.proofs.Plain.{line_of_name}
 use Rattle.tl_path.specs.Names.{is_name}
+use Rattle.tl_path.specs.Reserved.{is_reserved}
+use Rattle.tl_backup.specs.Form.{AreOfBackups}
+use Rattle.tl_backup.proofs.Changing.{added_later, change-added, entries-append}
 use Rattle.tl_plan.specs.Plans.{plan_steps}
 use Rattle.tl_plan.specs.Removal.{removal_of, removal_order, removal_fault, steps_unless}
 use Rattle.tl_plan.specs.declared.planned.Planned.{Planned}
@@ -25,13 +28,11 @@ use Rattle.tl_plan.specs.declared.error.PlanError.{PlanError}
 use Rattle.tl_plan.proofs.PlanLaws.{removes_alone}
 use Rattle.tl_command.specs.declared.ending.Ending.{Ending}
 use Rattle.tl_command.specs.Endings.{no_devices}
-use Rattle.tl_command.specs.Labels.{step_label}
-use Rattle.tl_command.specs.Loaded.{Steps}
 use Rattle.tl_command.specs.Performs.{Performs}
-use Rattle.tl_command.specs.Runs.{Run, stepping}
+use Rattle.tl_command.specs.Runs.{Run}
 use Rattle.tl_command.specs.Steps.{running}
-use Rattle.tl_command.proofs.Joins.{performs_stepped}
-use Rattle.tl_packages.specs.Remove.{change_text, changes_text, RemovesOne, parts_of, plan_step, numbered, at_end}
+use Rattle.tl_backups.specs.Continuing.{Continues}
+use Rattle.tl_packages.specs.Remove.{change_text, RemovesOne, left_in, part_of, parts_of, plan_step, numbered, at_end}
 
 -- what a package that leaves is called
 pub line_of_removal : (name : List ℕ) → is_name name ≡ true → IsLine (codes "remove " ++ name)
@@ -50,6 +51,32 @@ change-remove db step made label one is is_label = subst (λ (ps : List Part). I
 
 pub remove-whole : (step : List Planned) (made : List Part) → RemovesOne step → made ≡ parts_of step → has_later made ≡ false
 remove-whole step made one is = ap has_later (is ∙ ap parts_of one.1)
+
+-- and so is one with which backups are made and erased
+pub change-adding : (db : List Object) (step : List Planned) (added made : List Part) (label : List ℕ) → RemovesOne step → AreOfBackups added → made ≡ parts_of step ++ added → IsLabel label → IsChange db made label
+change-adding db step added made label one backups is is_label =
+    subst (λ (ps : List Part). IsChange db ps label) (sym is)
+    (change-added db (parts_of step) added label (change-remove db step (parts_of step) label one refl is_label)
+    (subst (λ (ps : List Planned). AllByRecursion (λ path. is_reserved path ≡ false) (spoken_paths (parts_of ps))) (sym one.1) tt) backups)
+
+pub adding-whole : (step : List Planned) (added made : List Part) → RemovesOne step → AreOfBackups added → made ≡ parts_of step ++ added → has_later made ≡ false
+adding-whole step added made one backups is = ap has_later is ∙ added_later (parts_of step) added backups.each (remove-whole step (parts_of step) one refl)
+
+-- the entries after one more part of a step
+pub after_planned : (step : List Planned) (i : ℕ) (part : Planned) (db mid new : List Object) → i < length step → part ≡ get_or step i part → mid ≡ entries_after (parts_of (take i step)) db
+    → new ≡ entries_by (part_of part) mid → new ≡ entries_after (parts_of (take (i + 1) step)) db
+after_planned step i part db mid new lt is far near =
+    let joined : parts_of (take i step) ++ part_of part ∷ [] ≡ parts_of (take (i + 1) step) =
+    sym (map-append part_of (take i step) (part ∷ [])) ∙ ap (λ (p : Planned). parts_of (take i step ++ p ∷ [])) is ∙ ap parts_of (sym (take_more step i part lt)) in
+    near ∙ ap (entries_by (part_of part)) far ∙ sym (entries-append (parts_of (take i step)) (part_of part ∷ []) db) ∙ ap (λ (ps : List Part). entries_after ps db) joined
+
+-- a step in which a package leaves speaks of an entry
+pub speaks-one : (step : List Planned) → RemovesOne step → has_entries (parts_of step) ≡ true
+speaks-one step one = ap (λ (ps : List Planned). has_entries (parts_of ps)) one.1
+
+-- no package leaves twice
+pub left-once : (step : List Planned) (names : List (List ℕ)) → RemovesOne step → names ≡ left_in step → IsDistinct same_name names
+left-once step names one is = subst (IsDistinct same_name) (sym (is ∙ ap left_in one.1)) (once-cons one.0 [] refl once-nil)
 
 each_one : (names : List (List ℕ)) → All RemovesOne (map (λ (name : List ℕ). Remove name ∷ []) names)
 each_one [] = All-nil RemovesOne
@@ -87,24 +114,21 @@ left_at steps at planned lt is =
 module _ {T : Type 0} (tells : Bool) (seen : T → Seen) (count : ℕ) (steps : List (List Planned)) (at : ℕ) (planned : List Planned) (lt : at < length steps) (is : planned ≡ get_or steps at planned)
     (old : Planted) (ending : Ending) (state : Result Seen T) where
   -- a step that was made, and then the steps behind it
-  pub step_made : (new : Planted) → Steps tells (parts_of planned) (step_label (at + 1) count (changes_text planned)) old new
+  pub step_made : (new : Planted) → Continues tells seen (plan_step count (at + 1, planned)) old new
       → Performs tells seen (λ t. running (plan_step count) (drop (at + 1) (numbered 1 steps)) at_end new.db t) 0 new.seen no_devices no_devices ending state
       → Performs tells seen (λ t. running (plan_step count) (drop at (numbered 1 steps)) at_end old.db t) 0 old.seen no_devices no_devices ending state
   step_made new made performs =
       let items = drop (at + 1) (numbered 1 steps) in
-      let made_db = entries_after (parts_of planned) old.db in
       subst (λ (all : List (ℕ × List Planned)). Performs tells seen (λ t. running (plan_step count) all at_end old.db t) 0 old.seen no_devices no_devices ending state) (sym (left_at steps at planned lt is))
-      (performs_stepped tells seen 0 old.seen no_devices no_devices ending state (parts_of planned) (step_label (at + 1) count (changes_text planned)) old new
-      (λ t. running (plan_step count) items at_end made_db t) refl made
-      (subst (λ (db : List Object). Performs tells seen (λ t. running (plan_step count) items at_end db t) 0 new.seen no_devices no_devices ending state) made.db performs))
+      (made.on (running (plan_step count) items at_end) ending state performs)
 
   -- a step that wasn't made
-  pub step_ended : ((rest : Volume → Run) → Performs tells seen (λ t. stepping old.db (parts_of planned) (step_label (at + 1) count (changes_text planned)) (rest t) t) 0 old.seen no_devices no_devices ending state)
+  pub step_ended : ((rest : List Object → Volume → Run) → Performs tells seen (λ t. plan_step count (at + 1, planned) rest old.db t) 0 old.seen no_devices no_devices ending state)
       → Performs tells seen (λ t. running (plan_step count) (drop at (numbered 1 steps)) at_end old.db t) 0 old.seen no_devices no_devices ending state
   step_ended acted =
       let items = drop (at + 1) (numbered 1 steps) in
       subst (λ (all : List (ℕ × List Planned)). Performs tells seen (λ t. running (plan_step count) all at_end old.db t) 0 old.seen no_devices no_devices ending state) (sym (left_at steps at planned lt is))
-      (acted (λ t. running (plan_step count) items at_end (entries_after (parts_of planned) old.db) (changed old.db (parts_of planned) t)))
+      (acted (running (plan_step count) items at_end))
 
 -- what further parts of a plan are called, with one more
 pub more_said : (start before mid after : List ℕ) (more : List Planned) (i : ℕ) (part : Planned) → i < length more → part ≡ get_or more i part

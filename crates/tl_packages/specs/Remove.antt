@@ -1,11 +1,14 @@
 -- What `remove` says and does.
 use Rattle.std.specs.Prelude.{◌≡◌, ℕ, ◌+◌, codes, Bool, List, [], ◌∷◌, ◌++◌, length, map, Result, Ok, Err}
 use Rattle.std.specs.List.{flat_map}
+use Rattle.tl_model.specs.Trace.{Step}
 use Rattle.tl_model.specs.Volume.{Volume}
 use Rattle.tl_entry.specs.declared.object.Object.{Object}
 use Rattle.tl_tree.specs.Changes.{entries_after, changed}
 use Rattle.tl_tree.specs.declared.change.Part.{Part}
 use Rattle.tl_tree.specs.declared.change.Part.TheVariants as parts
+use Rattle.tl_backup.specs.Autobackup.{autobackup}
+use Rattle.tl_backup.specs.declared.error.BackupError.{BackupError}
 use Rattle.tl_plan.specs.Removal.{removal_of}
 use Rattle.tl_plan.specs.declared.planned.Planned.{Planned}
 use Rattle.tl_plan.specs.declared.planned.Planned.TheVariants.{Remove}
@@ -13,8 +16,9 @@ use Rattle.tl_plan.specs.declared.error.PlanError.{PlanError}
 use Rattle.tl_plan.specs.declared.error.PlanError.TheVariants as plans
 use Rattle.tl_refusal.specs.declared.refusal.Refusal.TheVariants.{Protected, NotInstalled, Needed}
 use Rattle.tl_command.specs.Labels.{step_label}
-use Rattle.tl_command.specs.Runs.{Run, finished, refused, stepping}
+use Rattle.tl_command.specs.Runs.{Run, changing_entries, finished, followed, refused}
 use Rattle.tl_command.specs.Steps.{running}
+use Rattle.tl_backups.specs.Faults.{faulted}
 
 -- what a part of a plan is called where its step is acknowledged
 abbrev pub change_text : Planned → List ℕ
@@ -37,10 +41,25 @@ part_of (Remove name) = parts.Remove name
 abbrev pub parts_of : List Planned → List Part
 parts_of step = map part_of step
 
--- the run of a step of a plan, with its number, of so many, before what comes behind it
+-- the name of the package that leaves or is replaced with a part of a plan
+abbrev pub name_left : Planned → List (List ℕ)
+name_left (Remove name) = name ∷ []
+
+-- the names of the packages that leave or are replaced in a step of a plan
+abbrev pub left_in : List Planned → List (List ℕ)
+left_in step = flat_map name_left step
+
+-- the run of a step that does this to the tree with what is added to it, before what comes behind it; or of the fault of that
+abbrev pub step_adding : Result (List Part) BackupError → List Part → List ℕ → (List Object → Volume → Run) → List Object → Volume → Run
+step_adding (Err fault) parts label rest db tree = faulted fault
+step_adding (Ok added) parts label rest db tree =
+    followed (Step (changed db (parts ++ added) tree) label ∷ []) (rest (entries_after parts db) (changed db (parts ++ added) tree))
+
+-- the run of a step of a plan, with its number, of so many, before what comes behind it: the limits of the database that it leaves come
+-- first, then the backups of what leaves
 abbrev pub plan_step : ℕ → ℕ × List Planned → (List Object → Volume → Run) → List Object → Volume → Run
-plan_step count step rest db tree =
-    stepping db (parts_of step.1) (step_label step.0 count (changes_text step.1)) (rest (entries_after (parts_of step.1) db) (changed db (parts_of step.1) tree)) tree
+plan_step count step rest db tree = changing_entries db (parts_of step.1)
+    (step_adding (autobackup (left_in step.1) db tree) (parts_of step.1) (step_label step.0 count (changes_text step.1)) rest db tree)
 
 -- some things with their numbers, from one on
 abbrev pub numbered : {A : Type 0} → ℕ → List A → List (ℕ × A)

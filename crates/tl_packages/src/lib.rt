@@ -1,6 +1,7 @@
 //! Commands that bring and remove packages.
 #![tactic(auto)]
 
+mod added;
 mod plan;
 mod removing;
 

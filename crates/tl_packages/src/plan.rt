@@ -1,17 +1,22 @@
 //! The steps of a plan, made one after the other.
-ghost use Rattle.std.specs.Prelude.{◌≡◌, ◌++◌, codes, All, IfOk, IfErr, OnOk, string_bytes};
+ghost use Rattle.std.specs.Prelude.{◌≡◌, ◌++◌, codes, List, All, IfOk, IfErr, OnOk, string_bytes};
 ghost use Rattle.std.specs.List.{flat_map};
 ghost use Rattle.tl_model.specs.Acks.{IsLabel};
 ghost use Rattle.tl_model.specs.Lines.{IsLine};
 ghost use Rattle.tl_model.specs.Volume.{Volume};
+ghost use Rattle.tl_entry.specs.declared.object.Object.{Object};
+ghost use Rattle.tl_backup.specs.Form.{AreOfBackups};
 ghost use Rattle.tl_command.specs.Endings.{no_devices};
 ghost use Rattle.tl_command.specs.Labels.{step_label};
 ghost use Rattle.tl_command.specs.Loaded.{Steps};
 ghost use Rattle.tl_command.specs.Performs.{Performs};
 ghost use Rattle.tl_command.specs.Runs.{Run, stepping};
-ghost use Rattle.tl_packages.specs.Remove.{change_text, changes_text, RemovesOne, part_of, parts_of, plan_made};
+ghost use Rattle.tl_backups.specs.Continuing.{Continues};
+ghost use Rattle.tl_packages.specs.Remove.{change_text, changes_text, RemovesOne, part_of, parts_of, plan_made, plan_step};
 
+use crate::added::{fault_ends_step, left_in};
 use std::alloc::{AllocError, Global};
+use tl_backup::autobackup;
 use tl_command::{Acted, Session, finish, give_up, step, step_label};
 use tl_file::Bytes;
 use tl_host::Host;
@@ -83,30 +88,64 @@ fn part_of(part: &Planned) -> Result<Part, AllocError>
     }
 }
 
-fn parts_of(alloc: Global, step: &[Planned]) -> Result<PartList, AllocError>
-    ensures { IfOk result (λ parts. parts ≡ parts_of step.now) }
+fn parts_of(alloc: Global, step: &[Planned]) -> Result<Vec<Part>, AllocError>
+    ensures { IfOk result (λ parts. parts.items ≡ parts_of step.now) }
 {
     let mut parts = Vec::with_capacity(alloc, step.len())?;
     for part in step {
         parts.push(part_of(part)?)?;
     }
+    Ok(parts)
+}
+
+// What a step of a plan does to the tree, with what is added to it.
+fn parts_with(alloc: Global, step: &[Planned], added: Vec<Part>) -> Result<PartList, AllocError>
+    ensures { IfOk result (λ parts. parts ≡ parts_of step.now ++ added.items) }
+{
+    let mut parts = parts_of(alloc, step)?;
+    let mut added = added;
+    parts.append(&mut added)?;
     Ok(PartList::new(parts))
 }
 
-// The change of a step of a plan.
+// The change of a step of a plan, with what is added to it.
 fn change_of(
     alloc: Global,
     number: usize,
     count: usize,
     planned: &PlannedStep,
+    added: Vec<Part>,
 ) -> Result<Change, AllocError>
-    ensures parts { IfOk result (λ change. change.parts ≡ parts_of planned.now) }
+    ensures parts { IfOk result (λ change. change.parts ≡ parts_of planned.now ++ added.items) }
     ensures text { IfOk result (λ change. change.label ≡ step_label number count (changes_text planned.now)) }
     ensures label { IfOk result (λ change. IsLabel change.label) }
 {
     let label = Bytes::new(label_of(alloc, number, count, planned)?);
-    let parts = parts_of(alloc, planned.changes.as_slice())?;
+    let parts = parts_with(alloc, planned.changes.as_slice(), added)?;
     Ok(Change { parts, label })
+}
+
+// Makes a step of a plan with what is added to it; or, where it isn't made, how the command ends, whatever it would have done behind it.
+fn make_adding<H: Host>(
+    alloc: Global,
+    number: usize,
+    count: usize,
+    planned: &PlannedStep,
+    added: Vec<Part>,
+    tree: Tree<H>,
+) -> Result<Tree<H>, Acted<H>>
+    requires one { RemovesOne planned.now }
+    requires added { AreOfBackups added.items }
+    ensures made { IfOk result (λ next. Steps H.tells (parts_of planned.now ++ added.items)
+        (step_label number count (changes_text planned.now)) tree next) }
+    ensures acted { IfErr result (λ acted. (rest : Volume → Run) → Performs H.tells H.seen
+        (λ t. stepping tree.db (parts_of planned.now ++ added.items) (step_label number count (changes_text planned.now))
+        (rest t) t) 0 tree.seen no_devices no_devices acted.ending acted.state) }
+{
+    let Ok(change) = change_of(alloc, number, count, planned, added) else {
+        return Err(give_up(Session::of_tree(tree)));
+    };
+    step(alloc, &change, tree)
 }
 
 // Makes a step of a plan; or, where it isn't made, how the command ends, whatever it would have done behind it.
@@ -118,16 +157,19 @@ fn make<H: Host>(
     tree: Tree<H>,
 ) -> Result<Tree<H>, Acted<H>>
     requires { RemovesOne planned.now }
-    ensures made { IfOk result (λ next. Steps H.tells (parts_of planned.now)
-        (step_label number count (changes_text planned.now)) tree next) }
-    ensures acted { IfErr result (λ acted. (rest : Volume → Run) → Performs H.tells H.seen
-        (λ t. stepping tree.db (parts_of planned.now) (step_label number count (changes_text planned.now))
-        (rest t) t) 0 tree.seen no_devices no_devices acted.ending acted.state) }
+    ensures made { IfOk result (λ next. Continues H.tells H.seen (plan_step count (number, planned.now)) tree next) }
+    ensures acted { IfErr result (λ acted. (rest : List Object → Volume → Run) → Performs H.tells H.seen
+        (λ t. plan_step count (number, planned.now) rest tree.db t) 0 tree.seen no_devices no_devices acted.ending acted.state) }
 {
-    let Ok(change) = change_of(alloc, number, count, planned) else {
+    tree.stands();
+    let Ok(names) = left_in(alloc, planned) else {
         return Err(give_up(Session::of_tree(tree)));
     };
-    step(alloc, &change, tree)
+    let mut tree = tree;
+    match autobackup(alloc, &mut tree, &names) {
+        Ok(added) => make_adding(alloc, number, count, planned, added, tree),
+        Err(fault) => Err(fault_ends_step(alloc, fault, planned, tree)),
+    }
 }
 
 /// Makes the steps of a plan, and ends with a command that was carried out.

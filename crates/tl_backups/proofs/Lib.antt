@@ -1,0 +1,5 @@
+pub mod BackupLabels
+pub mod Continuing
+pub mod Named
+pub mod Packages
+pub mod ReadLabels
