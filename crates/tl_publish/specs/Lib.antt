@@ -1,0 +1,4 @@
+pub mod Listable
+pub mod Lsr
+pub mod Owning
+pub mod Walk

@@ -1,0 +1,2 @@
+pub mod FormatLines
+pub mod OnceLemmas
