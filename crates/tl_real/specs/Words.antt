@@ -1,10 +1,11 @@
 -- The words that a failure begins with.
 use Rattle.std.specs.Prelude.{ℕ, List, codes}
 use Rattle.tl_real.specs.declared.failure.Doing.{Doing}
-use Rattle.tl_real.specs.declared.failure.Doing.TheVariants.{Lock, Look, Read, List as Lists, Create, Write, Remove, Sync, Say}
+use Rattle.tl_real.specs.declared.failure.Doing.TheVariants.{Open, Lock, Look, Read, List as Lists, Create, Write, Remove, Sync, Say}
 
 -- what was being done, as it is told
 abbrev pub words_of : Doing → List ℕ
+words_of Open = codes "cannot open"
 words_of Lock = codes "cannot lock"
 words_of Look = codes "cannot look for"
 words_of Read = codes "cannot read"

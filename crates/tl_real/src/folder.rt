@@ -1,32 +1,22 @@
 // The calls on a folder, each as the system does it.
 ghost use Rattle.std.specs.Prelude.{◌≤◌, length, IfOk};
 
-use crate::failure::Doing;
+use crate::failure::{Changes, Doing, Failure};
+use crate::fits::{check_absent, check_way};
 use crate::kept::Kept;
+use crate::lock::Lock;
+use crate::making::{copy_all, fill, make_new, replace};
+use crate::names::{GATE, MOST_COMPONENTS, folder_above, folder_of};
 use crate::place::Place;
 use crate::stands::{file_len, is_absence};
 use crate::touched::Touched;
 use crate::walk::Walk;
 use std::alloc::{AllocError, Global};
-use std::fs::{File, OpenOptions, TryLockError};
+use std::fs::{File, OpenOptions};
 use std::io::{ErrorKind, Write};
-use std::os::unix::fs::{FileExt, MetadataExt, OpenOptionsExt};
+use std::os::unix::fs::MetadataExt;
 use std::rt::Files;
 use std::{fs, io};
-
-const IN_USE: &str = "another program uses it";
-
-// A component of no more bytes is one that each file system can hold.
-const SHORT_BYTES: usize = 128;
-
-// A path has no more components.
-const MOST_COMPONENTS: u64 = 64;
-
-const COPY_BYTES: usize = 16384;
-
-const MODE: u32 = 0o666;
-
-const EXECUTABLE_MODE: u32 = 0o777;
 
 /// A folder of files. It keeps open the file that is being read, the one that is being added to, and a walk.
 #[derive(Drop)]
@@ -34,13 +24,16 @@ pub(crate) struct Folder<'a, R: Files<File = File> + Print + AllocGlobal> {
     rt: &'a R,
     doing: Doing,
     place: Place,
-    lock: Option<File>,
+    lock: Lock,
     // the name at which a file was found last, if there is one
     looked: String,
+    // the folder in which a file was found to have its place last
+    fitting: String,
     reading: Kept,
     adding: Kept,
     walk: Option<Walk>,
     touched: Touched,
+    changes: Changes,
 }
 
 impl<'a, R: Files<File = File> + Print + AllocGlobal> Folder<'a, R> {
@@ -50,49 +43,58 @@ impl<'a, R: Files<File = File> + Print + AllocGlobal> Folder<'a, R> {
             rt,
             doing: Doing::Lock,
             place: Place::new(alloc, folder)?,
-            lock: None,
+            lock: Lock::new(),
             looked: String::new(alloc),
+            fitting: String::new(alloc),
             reading: Kept::new(alloc),
             adding: Kept::new(alloc),
             walk: None,
             touched: Touched::new(alloc),
+            changes: Changes::Nothing,
         })
     }
 
-    pub(crate) fn alloc(&self) -> Global {
+    fn alloc(&self) -> Global {
         self.rt.alloc()
     }
 
-    /// What was being done last.
-    pub(crate) fn doing(&self) -> Doing {
-        self.doing
+    /// The failure of the call before, which had this cause.
+    pub(crate) fn failure(&self, cause: io::Error) -> Failure {
+        let path = self.place.path();
+        Failure::new(self.rt.alloc(), self.doing, path, cause, self.changes)
     }
 
-    /// Where it was being done.
-    pub(crate) fn path(&self) -> &str {
-        self.place.path()
-    }
-
-    // Begins a call. The first one locks the folder, for as long as this value lives.
+    // Begins a call that changes nothing. The first one locks the folder, for as long as this value lives.
     fn enter(&mut self, doing: Doing) -> io::Result<()> {
-        self.doing = Doing::Lock;
-        self.place.go("")?;
-        if self.lock.is_none() {
-            let root = File::open(self.rt, self.place.path())?;
-            match root.try_lock() {
-                Ok(()) => {}
-                Err(TryLockError::WouldBlock) => {
-                    return Err(io::Error::new(ErrorKind::WouldBlock, IN_USE));
-                }
-                Err(TryLockError::Error(error)) => return Err(error),
-            }
-            self.lock = Some(root);
+        self.go_to_lock()?;
+        if !self.lock.is_held() {
+            self.lock.share()?;
         }
         self.doing = doing;
         Ok(())
     }
 
-    /// The length of the name's file. A name that the file system can't hold is an error.
+    // Begins a call that changes something. The first one locks the folder for this host alone.
+    fn enter_alone(&mut self, doing: Doing) -> io::Result<()> {
+        self.go_to_lock()?;
+        if !self.lock.is_alone() {
+            self.lock.take_alone()?;
+        }
+        self.doing = doing;
+        Ok(())
+    }
+
+    fn go_to_lock(&mut self) -> io::Result<()> {
+        self.doing = Doing::Open;
+        self.place.go("")?;
+        if !self.lock.is_open() {
+            self.lock.open(self.rt, self.place.path())?;
+        }
+        self.doing = Doing::Lock;
+        Ok(())
+    }
+
+    /// The length of the name's file. Where no file stands and none can come, that is an error.
     pub(crate) fn size(&mut self, name: &str) -> io::Result<Option<u64>> {
         self.enter(Doing::Look)?;
         self.place.go(name)?;
@@ -101,21 +103,18 @@ impl<'a, R: Files<File = File> + Print + AllocGlobal> Folder<'a, R> {
             self.looked.clear();
             self.looked.push_str(name)?;
         } else {
-            self.check_components(name)?;
+            self.check_fits(name)?;
         }
         Ok(len)
     }
 
-    // Below a folder that isn't there the system doesn't look at a component, so it is asked of each by itself.
-    fn check_components(&mut self, name: &str) -> io::Result<()> {
-        for component in name.split('/') {
-            if component.len() > SHORT_BYTES {
-                self.place.go(component)?;
-                match fs::symlink_metadata(self.rt, self.place.path()) {
-                    Err(error) if error.kind() == ErrorKind::InvalidFilename => return Err(error),
-                    _ => {}
-                }
-            }
+    fn check_fits(&mut self, name: &str) -> io::Result<()> {
+        check_absent(self.rt, self.alloc(), &mut self.place, name)?;
+        let folder = folder_of(name);
+        if self.fitting.as_str() != folder {
+            check_way(self.rt, &mut self.place, name)?;
+            self.fitting.clear();
+            self.fitting.push_str(folder)?;
         }
         Ok(())
     }
@@ -194,7 +193,7 @@ impl<'a, R: Files<File = File> + Print + AllocGlobal> Folder<'a, R> {
 
     /// Makes the name's file anew, empty. What stood there is let go, and not written to.
     pub(crate) fn create(&mut self, name: &str) -> io::Result<()> {
-        self.enter(Doing::Create)?;
+        self.enter_alone(Doing::Create)?;
         self.walk = None;
         self.let_go();
         let file = self.make(name)?;
@@ -203,19 +202,19 @@ impl<'a, R: Files<File = File> + Print + AllocGlobal> Folder<'a, R> {
 
     fn make(&mut self, name: &str) -> io::Result<File> {
         self.touched.note_file(name)?;
-        self.touched.note_folder(folder_of(name))?;
+        self.touched.note_way(name)?;
         self.place.go(name)?;
         match make_new(self.rt, self.place.path(), name) {
             Ok(file) => Ok(file),
-            Err(error) => {
-                match error.kind() {
-                    ErrorKind::AlreadyExists => clear_away(self.rt, self.place.path())?,
-                    ErrorKind::NotFound => self.make_folders(name)?,
-                    _ => return Err(error),
+            Err(error) => match error.kind() {
+                ErrorKind::AlreadyExists => replace(self.rt, self.alloc(), &mut self.place, name),
+                ErrorKind::NotFound => {
+                    self.make_folders(name)?;
+                    self.place.go(name)?;
+                    make_new(self.rt, self.place.path(), name)
                 }
-                self.place.go(name)?;
-                make_new(self.rt, self.place.path(), name)
-            }
+                _ => Err(error),
+            },
         }
     }
 
@@ -223,23 +222,32 @@ impl<'a, R: Files<File = File> + Print + AllocGlobal> Folder<'a, R> {
     fn make_folders(&mut self, name: &str) -> io::Result<()> {
         for (at, _) in name.match_indices('/') {
             if let Some((folder, _)) = name.split_at_checked(at) {
-                self.touched.note_folder(folder_of(folder))?;
-                self.place.go(folder)?;
-                match fs::create_dir(self.rt, self.place.path()) {
-                    Ok(()) => {}
-                    Err(error) if error.kind() == ErrorKind::AlreadyExists => {}
-                    Err(error) => return Err(error),
-                }
+                self.make_folder(folder)?;
             }
         }
         Ok(())
     }
 
+    // Makes a folder, where nothing stands.
+    fn make_folder(&mut self, folder: &str) -> io::Result<()> {
+        self.place.go(folder)?;
+        if fs::metadata(self.rt, self.place.path()).is_ok() {
+            return Ok(());
+        }
+        self.touched.note_folder(folder_of(folder))?;
+        match fs::create_dir(self.rt, self.place.path()) {
+            Ok(()) => Ok(()),
+            Err(error) if error.kind() == ErrorKind::AlreadyExists => Ok(()),
+            Err(error) => Err(error),
+        }
+    }
+
     /// Adds bytes at the end of the name's file.
     pub(crate) fn append(&mut self, name: &str, bytes: &[u8]) -> io::Result<()> {
-        self.enter(Doing::Write)?;
+        self.enter_alone(Doing::Write)?;
         self.place.go(name)?;
         self.touched.note_file(name)?;
+        self.touched.note_way(name)?;
         if self.adding.file(name).is_none() {
             self.adding.close();
             let file = self.open_to_add(name)?;
@@ -248,10 +256,14 @@ impl<'a, R: Files<File = File> + Print + AllocGlobal> Folder<'a, R> {
         match self.adding.file(name) {
             Some(file) => {
                 let mut writer: &File = file;
-                writer.write_all(bytes)
+                writer.write_all(bytes)?;
             }
-            None => Err(io::Error::from(ErrorKind::NotFound)),
+            None => return Err(io::Error::from(ErrorKind::NotFound)),
         }
+        if name == GATE {
+            self.changes = Changes::Unsaid;
+        }
+        Ok(())
     }
 
     // The name's own file. What stands there may be a link, or have other names: then it becomes a copy first.
@@ -274,13 +286,13 @@ impl<'a, R: Files<File = File> + Print + AllocGlobal> Folder<'a, R> {
 
     /// Removes the name's file, where there is one, and the folders that are empty then.
     pub(crate) fn remove(&mut self, name: &str) -> io::Result<()> {
-        self.enter(Doing::Remove)?;
+        self.enter_alone(Doing::Remove)?;
+        self.touched.note_way(name)?;
         self.place.go(name)?;
         if file_len(self.rt, self.place.path())?.is_none() {
             return Ok(());
         }
         self.let_go();
-        self.touched.note_folder(folder_of(name))?;
         match fs::remove_file(self.rt, self.place.path()) {
             Ok(()) => {}
             Err(error) if is_absence(&error) => {}
@@ -321,28 +333,19 @@ impl<'a, R: Files<File = File> + Print + AllocGlobal> Folder<'a, R> {
         self.touched.settle(self.rt, &mut self.place)
     }
 
-    /// Writes to standard output.
+    /// Writes to standard output. It asks nothing of the folder.
     pub(crate) fn say(&mut self, bytes: &[u8]) -> io::Result<()> {
-        self.enter(Doing::Say)?;
+        self.doing = Doing::Say;
         self.place.go_out("standard output")?;
-        io::writer(self.rt).write_all(bytes)
+        io::writer(self.rt).write_all(bytes)?;
+        if self.changes == Changes::Unsaid {
+            self.changes = Changes::Said;
+        }
+        Ok(())
     }
 }
 
-// The folder that holds a name, with its slash.
-fn folder_of(name: &str) -> &str {
-    match name.rsplit_once('/') {
-        Some((_, last)) => name.strip_suffix(last).unwrap_or(""),
-        None => "",
-    }
-}
-
-// The folder that holds a folder.
-fn folder_above(folder: &str) -> &str {
-    folder_of(folder.strip_suffix('/').unwrap_or(folder))
-}
-
-// Whether a folder stays because it isn't empty, is gone, is a link, or is one that the system holds.
+// Whether a folder stays because it isn't empty, is gone, is a link, is one that the system holds, or may not be removed.
 fn is_kept(kind: ErrorKind) -> bool {
     matches!(
         kind,
@@ -351,75 +354,7 @@ fn is_kept(kind: ErrorKind) -> bool {
             | ErrorKind::NotFound
             | ErrorKind::NotADirectory
             | ErrorKind::ResourceBusy
+            | ErrorKind::PermissionDenied
+            | ErrorKind::ReadOnlyFilesystem
     )
-}
-
-// Files below bin/ are programs.
-fn make_new<R: Files<File = File>>(rt: &R, path: &str, name: &str) -> io::Result<File> {
-    let mode = if name.starts_with("bin/") {
-        EXECUTABLE_MODE
-    } else {
-        MODE
-    };
-    OpenOptions::new()
-        .append(true)
-        .create_new(true)
-        .mode(mode)
-        .open(rt, path)
-}
-
-// Removes the file or the link at a path; not a folder, nor a link to one, nor anything else.
-fn clear_away(rt: &impl Files, path: &str) -> io::Result<()> {
-    let found = fs::symlink_metadata(rt, path)?;
-    if found.is_dir() || leads_to_folder(rt, path) {
-        return Err(io::Error::from(ErrorKind::IsADirectory));
-    }
-    if !found.is_file() && !found.is_symlink() {
-        return Err(io::Error::from(ErrorKind::AlreadyExists));
-    }
-    fs::remove_file(rt, path)
-}
-
-fn leads_to_folder(rt: &impl Files, path: &str) -> bool {
-    match fs::metadata(rt, path) {
-        Ok(found) => found.is_dir(),
-        Err(_) => false,
-    }
-}
-
-pub(crate) fn fill(file: &File, from: u64, into: &mut [u8]) -> io::Result<usize>
-    ensures { IfOk result (λ count. count ≤ length into.new) }
-{
-    let mut done = 0;
-    for _ in 0..u64::MAX {
-        if done == into.len() {
-            break;
-        }
-        let at = from.saturating_add(done as u64);
-        if at > i64::MAX as u64 {
-            break;
-        }
-        match file.read_at(&mut into[done..], at) {
-            Ok(0) => break,
-            Ok(count) => done += count,
-            Err(error) if error.kind() == ErrorKind::Interrupted => {}
-            Err(error) => return Err(error),
-        }
-    }
-    Ok(done)
-}
-
-fn copy_all(from: &File, to: &File) -> io::Result<()> {
-    let mut writer: &File = to;
-    let mut buffer = [0u8; COPY_BYTES];
-    let mut at = 0u64;
-    for _ in 0..u64::MAX {
-        let count = fill(from, at, &mut buffer)?;
-        if count == 0 {
-            break;
-        }
-        writer.write_all(&buffer[..count])?;
-        at = at.saturating_add(count as u64);
-    }
-    Ok(())
 }

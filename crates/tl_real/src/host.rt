@@ -20,16 +20,22 @@ use tl_path::PathRef;
 ///
 /// A file is a regular file or a link that leads to one. Whatever else stands at a name, as a folder, a link to a folder,
 /// a link to nothing, a pipe or a device, is no file there: it is passed over, and never opened. A name that is no path
-/// is passed over too. A name that the file system can't hold makes `size` fail.
+/// is passed over too. `size` fails at a name where no file stands and none can come: one that the file system can't hold, one at
+/// which a pipe or a device stands, or a folder that holds, at any depth, something that is no folder and that no walk lists, and
+/// one below a pipe, a device or a link to nothing.
 ///
-/// `create` lets go of the file or link that stands at the name, and makes the missing folders; a file below `bin/` is
-/// made executable. `append` adds to no file that has another name: it makes a copy first. `remove` also removes the
-/// folders that are empty then, but not the whole folder. `sync` makes each touched file and each folder in which a name
-/// came or went durable, and asks nothing of the disk where no name is touched; once the system has failed at that,
-/// each later `sync` fails too. `next_name` lists each folder once where each call goes on from the name before.
+/// `create` lets go of the file or link that stands at the name, or of a tree of empty folders, and makes the missing folders; a file
+/// that it replaces hands its mode on, and another one below `bin/` is made executable. `append` adds to no file that has another
+/// name: it makes a copy first. `remove` also removes the folders that are empty then, but not the whole folder, and leaves those that
+/// it may not remove.
 ///
-/// The first call locks the whole folder against other programs, without waiting, for as long as the host lives. A folder
-/// that is missing, that another program holds, or whose path is not UTF-8 or is empty makes each call fail.
+/// `sync` makes each touched file, each folder in which a name came or went, and the folders above durable, and asks nothing of the disk
+/// where no name is touched; the first one makes durable what an earlier program left of the journal. Once the system has failed at
+/// that, each later `sync` fails too. `next_name` lists each folder once where each call goes on from the name before.
+///
+/// The first call but `say` locks the whole folder together with other programs that read, and the first one that changes something
+/// locks it for this host alone, both without waiting, and for as long as the host lives. A folder that is missing, that another
+/// program holds, or whose path is not UTF-8 or is empty makes each call but `say` fail.
 #[derive(Drop)]
 pub struct FolderHost<'a, R: Files<File = File> + Print + AllocGlobal> {
     folder: Folder<'a, R>,
@@ -83,13 +89,9 @@ impl<'a, R: Files<File = File> + Print + AllocGlobal> FolderHost<'a, R> {
         ensures later { self.old ≤ self.new }
         ensures rose { Rose self.old self.new }
     {
+        let failure = self.folder.failure(cause);
         self.faults = self.faults.saturating_add(1);
-        self.failure = Some(Failure::new(
-            self.folder.alloc(),
-            self.folder.doing(),
-            self.folder.path(),
-            cause,
-        ));
+        self.failure = Some(failure);
     }
 
     // Writes the name that the walk gave last, which is to be a path after `after`, and gives its length.

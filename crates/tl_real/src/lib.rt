@@ -2,10 +2,16 @@
 //! counts.
 #![tactic(auto)]
 
+mod below;
 mod failure;
+mod fits;
 mod folder;
 mod host;
 mod kept;
+mod listing;
+mod lock;
+mod making;
+mod names;
 mod place;
 mod shelf;
 mod source;
@@ -13,7 +19,7 @@ mod stands;
 mod touched;
 mod walk;
 
-pub use failure::{Doing, Failure};
+pub use failure::{Changes, Doing, Failure, OneLine};
 pub use host::FolderHost;
 pub use shelf::FolderShelf;
 pub use source::StdSource;

@@ -3,9 +3,9 @@ ghost use Rattle.std.specs.Prelude.{◌≡◌, ◌≤◌, ◌<◌, ◌↔◌, fa
 ghost use Rattle.tl_model.specs.Causes.{HasCause, Rose};
 ghost use Rattle.tl_real.specs.Untold.{untold_shelf, Failing};
 
-use crate::failure::{Doing, Failure};
-use crate::folder::fill;
+use crate::failure::{Changes, Doing, Failure};
 use crate::kept::Kept;
+use crate::making::fill;
 use crate::place::Place;
 use crate::stands::{file_len, is_absence};
 use std::alloc::AllocError;
@@ -80,8 +80,8 @@ impl<'a, R: Files<File = File> + AllocGlobal> FolderShelf<'a, R> {
     {
         let alloc = self.rt.alloc();
         let failure = match self.folders.get(repo as usize) {
-            Some(place) => Failure::new(alloc, doing, place.path(), cause),
-            None => Failure::new(alloc, doing, "", cause),
+            Some(place) => Failure::new(alloc, doing, place.path(), cause, Changes::Nothing),
+            None => Failure::new(alloc, doing, "", cause, Changes::Nothing),
         };
         self.faults = self.faults.saturating_add(1);
         self.failure = Some(failure);

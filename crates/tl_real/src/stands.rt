@@ -3,6 +3,9 @@ use std::io::ErrorKind;
 use std::rt::Files;
 use std::{fs, io};
 
+/// What is said of something that is no file, folder or link.
+pub(crate) const NO_FILE: &str = "what stands there is no file";
+
 /// What stands at a path: nothing that counts, a file or a link that leads to one, with its length, or a folder that
 /// is no link.
 #[derive(Clone, Copy)]

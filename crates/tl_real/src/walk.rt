@@ -1,13 +1,11 @@
 // The names below a folder, in byte order.
+use crate::listing::list;
 use crate::place::Place;
-use crate::stands::{Stands, is_absence, look};
+use crate::stands::{Stands, look};
 use std::alloc::{AllocError, Global};
 use std::io;
-use std::io::Read;
 use std::rt::Files;
 use tl_path::PathRef;
-
-const LIST_BYTES: usize = 16384;
 
 /// A walk over the files below a folder. It lists each folder once, as it comes to it, and looks at each name once,
 /// as it comes to it; so a name that goes while the walk is open is passed over.
@@ -106,18 +104,12 @@ impl Walk {
         }
     }
 
+    // Names that aren't UTF-8 are passed over.
     fn list<R: Files>(&mut self, rt: &R, place: &mut Place, folder: String) -> io::Result<()> {
-        place.go(folder.as_str())?;
-        match rt.open_dir(place.path()) {
-            Ok(dir) => {
-                let mut found = read_names(self.alloc, dir, folder.as_str())?;
-                found.sort_unstable_by(|a, b| b.cmp(a));
-                self.names.append(&mut found)?;
-                Ok(())
-            }
-            Err(error) if is_absence(&error) => Ok(()),
-            Err(error) => Err(error),
-        }
+        let mut found = list(rt, self.alloc, place, folder.as_str())?.names;
+        found.sort_unstable_by(|a, b| b.cmp(a));
+        self.names.append(&mut found)?;
+        Ok(())
     }
 }
 
@@ -127,42 +119,4 @@ fn is_on_way(given: &str, name: &str) -> bool {
         Some(rest) => rest.as_bytes().first().is_none_or(|byte| *byte <= b'/'),
         None => false,
     }
-}
-
-// The names in a folder, each behind the folder's own. Those that aren't UTF-8 are passed over.
-fn read_names<D: Read + Drop>(alloc: Global, dir: D, folder: &str) -> io::Result<Vec<String>> {
-    let mut dir = dir;
-    let mut found = Vec::new(alloc);
-    let mut buffer = [0u8; LIST_BYTES];
-    for _ in 0..u64::MAX {
-        let count = dir.read(&mut buffer)?;
-        if count == 0 {
-            break;
-        }
-        add_names(alloc, &buffer[..count], folder, &mut found)?;
-    }
-    Ok(found)
-}
-
-fn add_names(
-    alloc: Global,
-    listed: &[u8],
-    folder: &str,
-    found: &mut Vec<String>,
-) -> Result<(), AllocError> {
-    for name in listed.split(|byte| *byte == 0) {
-        match str::from_utf8(name) {
-            Ok("" | "." | "..") | Err(_) => {}
-            Ok(text) => {
-                let mut path = String::with_capacity(
-                    alloc,
-                    folder.len().saturating_add(name.len()),
-                )?;
-                path.push_str(folder)?;
-                path.push_str(text)?;
-                found.push(path)?;
-            }
-        }
-    }
-    Ok(())
 }
