@@ -1,4 +1,5 @@
 //! The real devices, and a command over them.
+use crate::told::{Reading, has_database, tell};
 use crate::want_of_memory;
 use std::alloc::{AllocError, Global};
 use std::fs::File;
@@ -7,17 +8,18 @@ use std::rt::Files;
 use std::thread::Threads;
 use tl_real::{FolderHost, FolderShelf, StdSource};
 use tl_tool::actions::BUILT;
-use tl_tool::{Ending, Regexps, texlive};
-use tl_words::{Command, Repository, WordsError, read_words};
+use tl_tool::{Regexps, texlive};
+use tl_words::{Action, Command, Repository, WordsError, read_words};
 
 // The folder that is meant where none is named.
 const HERE: &[u8] = b".";
 
-// The folders that a command's words name.
+// The folders that a command's words name, and whether the command reads the tree's database.
 #[derive(Drop)]
 struct Folders {
     root: Vec<u8>,
     repositories: Vec<Vec<u8>>,
+    reads_database: bool,
 }
 
 /// Carries a command out over the folders that its words name, and gives its status. Where the words are no command, the folder is
@@ -28,7 +30,7 @@ where
 {
     match named_folders(rt.alloc(), words) {
         Ok(folders) => match devices(rt, &folders) {
-            Ok((host, shelf)) => carried_out(rt, words, host, shelf),
+            Ok((host, shelf)) => carried_out(rt, words, &folders, host, shelf),
             Err(_) => want_of_memory(rt),
         },
         Err(_) => want_of_memory(rt),
@@ -41,6 +43,7 @@ fn named_folders(alloc: Global, words: &[Vec<u8>]) -> Result<Folders, AllocError
         Err(WordsError::BadWords { .. }) => Ok(Folders {
             root: Vec::from_slice(alloc, HERE)?,
             repositories: Vec::new(alloc),
+            reads_database: false,
         }),
         Err(WordsError::NoMemory) => Err(AllocError),
     }
@@ -50,7 +53,26 @@ fn command_folders(alloc: Global, command: &Command) -> Result<Folders, AllocErr
     Ok(Folders {
         root: Vec::from_slice(alloc, command.root.as_slice())?,
         repositories: repository_folders(alloc, command.repositories.as_slice())?,
+        reads_database: reads_database(&command.action),
     })
+}
+
+// Whether the action is of no use over a folder without a database.
+fn reads_database(action: &Action) -> bool {
+    matches!(
+        action,
+        Action::DumpTlpdb { .. }
+            | Action::Info { .. }
+            | Action::Search { .. }
+            | Action::Candidates { .. }
+            | Action::Check { .. }
+            | Action::Install { .. }
+            | Action::Update { .. }
+            | Action::Remove { .. }
+            | Action::Backup { .. }
+            | Action::Restore { .. }
+            | Action::Setting { .. }
+    )
 }
 
 fn repository_folders(
@@ -81,12 +103,15 @@ fn devices<'r, R: Files<File = File> + Print + AllocGlobal>(
 fn carried_out<'r, R>(
     rt: &'r R,
     words: &[Vec<u8>],
+    folders: &Folders,
     host: FolderHost<'r, R>,
     shelf: FolderShelf<'r, R>,
 ) -> u8
 where
     R: Files<File = File> + Input + Print + Eprint + AllocGlobal + Threads + Sync,
 {
+    let mut host = host;
+    let had_database = !folders.reads_database || has_database(&mut host);
     let mut shelf = shelf;
     let mut input = StdSource::new(rt);
     let mut regexps = Regexps::new();
@@ -99,37 +124,12 @@ where
         &mut input,
         &mut regexps,
     );
-    explain(rt, &ending, &host, &shelf, &input);
+    let reading = Reading {
+        words,
+        root: folders.root.as_slice(),
+        reads_database: folders.reads_database,
+        had_database,
+    };
+    tell(rt, &reading, &ending, host, &shelf, &input);
     ending.status()
-}
-
-// Says on standard error what no line on standard output says.
-fn explain<R: Files<File = File> + Input + Print + Eprint + AllocGlobal>(
-    rt: &R,
-    ending: &Ending,
-    host: &FolderHost<'_, R>,
-    shelf: &FolderShelf<'_, R>,
-    input: &StdSource<'_, R>,
-) {
-    match ending {
-        Ending::HostFault => {
-            if let Some(failure) = host.failure() {
-                let _ = eprintln!(rt; "texlive: {failure}");
-            }
-        }
-        Ending::ShelfFault => {
-            if let Some(failure) = shelf.failure() {
-                let _ = eprintln!(rt; "texlive: {failure}");
-            }
-        }
-        Ending::InputFault => {
-            if let Some(error) = input.failure() {
-                let _ = eprintln!(rt; "texlive: cannot read standard input: {error}");
-            }
-        }
-        Ending::NoMemory => {
-            let _ = want_of_memory(rt);
-        }
-        Ending::Done | Ending::Refused(_) => {}
-    }
 }

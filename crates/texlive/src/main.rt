@@ -3,9 +3,12 @@
 
 mod devices;
 mod own;
+mod standard;
+mod told;
 
 use crate::devices::command;
 use crate::own::answer;
+use crate::standard::Standard;
 use std::fs::File;
 use std::io::{ErrorKind, Input, Write};
 use std::process::ExitCode;
@@ -34,12 +37,13 @@ fn run<R>(rt: &R) -> u8
 where
     R: Env + Files<File = File> + Input + Print + Eprint + AllocGlobal + Threads + Sync,
 {
+    let _standard = Standard::fill(rt, rt.alloc());
     match words(rt) {
         Ok(words) => match answer(rt, &words) {
             Some(status) => status,
             None => command(rt, &words),
         },
-        Err(error) if error.kind() == ErrorKind::InvalidData => print(rt, NO_TEXT, FAULTY_LINE),
+        Err(error) if error.kind() == ErrorKind::InvalidData => refuse_arguments(rt),
         Err(_) => want_of_memory(rt),
     }
 }
@@ -51,6 +55,11 @@ fn words<R: Env + AllocGlobal>(rt: &R) -> io::Result<Vec<Vec<u8>>> {
         words.push(word.into_bytes())?;
     }
     Ok(words)
+}
+
+fn refuse_arguments<R: Print + Eprint>(rt: &R) -> u8 {
+    let _ = eprintln!(rt; "texlive: an argument is no UTF-8 text");
+    print(rt, NO_TEXT, FAULTY_LINE)
 }
 
 // Says that no memory is left.
