@@ -1,20 +1,27 @@
 -- A command that reads less than the whole outside, as one over all of it.
-use Rattle.std.proofs.Common.{◌≡◌, Bool, true, false, not, ◌&&◌, ◌||◌, Option, Some, None, Result, inr, refl, sym, subst, arith}
+use Rattle.std.proofs.Common.{◌≡◌, Bool, true, false, not, ◌&&◌, ◌||◌, List, Option, Some, None, Result, inr, refl, sym, subst, arith}
 use Rattle.std.specs.Prelude.{IsTrue, IsSome}
 use Rattle.tl_model.specs.Volume.{Volume}
 use Rattle.tl_model.specs.Devices.{ShelfSeen, SourceSeen, Outside}
 use Rattle.tl_model.specs.Seen.{Seen}
 use Rattle.tl_action.specs.declared.command.Action.{Action}
+use Rattle.tl_action.specs.declared.command.Action.TheVariants as actions
 use Rattle.tl_action.specs.declared.command.Command.{Command}
+use Rattle.tl_action.specs.declared.command.Repository.{Repository}
 use Rattle.tl_words.specs.declared.faults.Fault.{Fault}
 use Rattle.tl_command.specs.declared.ending.Ending.{Ending}
 use Rattle.tl_command.specs.declared.ending.Ending.TheVariants.{Done, Refused, HostFault, ShelfFault, InputFault, NoMemory}
 use Rattle.tl_command.specs.Endings.{no_devices, IsCarried, IsCaused}
 use Rattle.tl_command.specs.Performs.{Performs}
+use Rattle.tl_command.specs.Runs.{Run}
 use Rattle.tl_command.proofs.Joins.{performs_alone, performs_fewer}
-use Rattle.tl_tool.specs.Acts.{Acts}
+use Rattle.tl_show.specs.Candidates.{candidates_run}
+use Rattle.tl_show.specs.Info.{info_run}
+use Rattle.tl_show.specs.Opening.{over_offer}
+use Rattle.tl_show.specs.Search.{search_run}
+use Rattle.tl_tool.specs.Acts.{Acts, ActsAlone, ActsOver}
 use Rattle.tl_tool.specs.Commands.{action_run, act_of, reads_repositories, reads_input, tells_all}
-use Rattle.tl_tool.specs.Outsides.{faults_of, shelf_faults}
+use Rattle.tl_tool.specs.Outsides.{faults_of, over_shelf, shelf_faults}
 use Rattle.tl_tool.specs.Top.{AnswersWords}
 
 pub both : (a b : Bool) → (a && b) ≡ true → (a ≡ true) × (b ≡ true)
@@ -27,13 +34,38 @@ tells_all-host action shelf input host told =
     let parts = both (not (reads_repositories action) || shelf) ((not (reads_input action) || input) && host) told in
     (both (not (reads_input action) || input) host parts.1).1
 
+-- an action that was carried out as this one, which it is
+pub acts_as : {T : Type 0} (host : Bool) (seen : T → Seen) (action this : Action) (first : Seen) (ending : Ending) (state : Result Seen T)
+    → action ≡ this → ActsAlone host seen this first ending state → ActsAlone host seen action first ending state
+acts_as host seen action this first ending state is acts = subst (λ (a : Action). ActsAlone host seen a first ending state) (sym is) acts
+
 -- a command that reads neither repositories nor the input
-pub acts-alone : {T : Type 0} (shelf host : Bool) (seen : T → Seen) (command : Command) (action : Action) (first : Seen) (old : ShelfSeen) (ending : Ending) (state : Result Seen T) → command.action ≡ action
-    → ((outside : Outside) → Performs host seen (action_run action command.repositories outside) 0 first no_devices no_devices ending state) → Acts shelf host seen command first old old ending state
-acts-alone shelf host seen command action first old ending state is performs outside input same =
+pub acts-alone : {T : Type 0} (shelf host : Bool) (seen : T → Seen) (command : Command) (first : Seen) (old : ShelfSeen) (ending : Ending) (state : Result Seen T)
+    → ActsAlone host seen command.action first ending state → Acts shelf host seen command first old old ending state
+acts-alone shelf host seen command first old ending state performs outside input same =
     performs_fewer (tells_all command.action shelf input host) host (tells_all-host command.action shelf input host) seen 0 first (shelf_faults old) (shelf_faults old) ending state (act_of command outside)
-    (performs_alone host seen 0 first (shelf_faults old) (shelf_faults old) ending state (act_of command outside)
-    (subst (λ (a : Action). Performs host seen (action_run a command.repositories outside) 0 first no_devices no_devices ending state) (sym is) (performs outside)))
+    (performs_alone host seen 0 first (shelf_faults old) (shelf_faults old) ending state (act_of command outside) (performs command.repositories outside))
+
+told_over : (action : Action) (shelf input host : Bool) → reads_repositories action ≡ true → IsTrue (tells_all action shelf input host) → IsTrue (shelf && host)
+told_over action shelf input host over told =
+    let parts = both (not (reads_repositories action) || shelf) ((not (reads_input action) || input) && host) told in
+    let of_shelf : shelf ≡ true = subst (λ b. (not b || shelf) ≡ true) over parts.0 in
+    subst (λ b. (b && host) ≡ true) (sym of_shelf) (both (not (reads_input action) || input) host parts.1).1
+
+-- what holds of an action's run over the repositories alone holds of it over all that is outside
+over_shelf-run : (P : (Volume → Run) → Type 0) (action : Action) (repositories : List Repository) (outside : Outside) (old : ShelfSeen) → reads_repositories action ≡ true
+    → outside.repositories ≡ old.repositories → P (action_run action repositories (over_shelf old)) → P (action_run action repositories outside)
+over_shelf-run P (actions.Info name) repositories outside old over same p = subst (λ volumes. P (over_offer repositories volumes (info_run name))) (sym same) p
+over_shelf-run P (actions.Search word) repositories outside old over same p = subst (λ volumes. P (over_offer repositories volumes (search_run word))) (sym same) p
+over_shelf-run P (actions.Candidates name) repositories outside old over same p = subst (λ volumes. P (over_offer repositories volumes (candidates_run name))) (sym same) p
+over_shelf-run P _ repositories outside old over same p = p
+
+-- a command that reads repositories and not the input
+pub acts-over : {T : Type 0} (shelf host : Bool) (seen : T → Seen) (command : Command) (first : Seen) (old new : ShelfSeen) (ending : Ending) (state : Result Seen T) → reads_repositories command.action ≡ true
+    → ActsOver shelf host seen command.action command.repositories first old new ending state → Acts shelf host seen command first old new ending state
+acts-over shelf host seen command first old new ending state over performs outside input same =
+    performs_fewer (tells_all command.action shelf input host) (shelf && host) (told_over command.action shelf input host over) seen 0 first (shelf_faults old) (shelf_faults new) ending state (act_of command outside)
+    (over_shelf-run (λ run. Performs (shelf && host) seen run 0 first (shelf_faults old) (shelf_faults new) ending state) command.action command.repositories outside old over same performs)
 
 -- the cause of an ending of a command that is given no input, beside any
 pub caused-beside : (ending : Ending) (first last : Seen) (old new : ShelfSeen) (left lost : SourceSeen) → IsCaused ending first last (shelf_faults old) (shelf_faults new)

@@ -15,6 +15,11 @@ use Rattle.tl_lsr.specs.Reading.{lsr_read}
 use Rattle.tl_refusal.specs.declared.refusal.Refusal.TheVariants.{TooLarge}
 use Rattle.tl_command.specs.Runs.{AreLabelled, refused, over_bytes}
 use Rattle.tl_command.proofs.Limits.{labelled-over}
+use Rattle.tl_backups.proofs.BackupLabels.{labelled-backup}
+use Rattle.tl_packages.proofs.Labels.{labelled-remove}
+use Rattle.tl_publish.specs.Lsr.{lsr_run}
+use Rattle.tl_publish.proofs.RunLemmas.{labelled-lsr}
+use Rattle.tl_show.proofs.OpenLemmas.{labelled-info, labelled-search, labelled-candidates}
 use Rattle.tl_show.specs.Check.{check_run}
 use Rattle.tl_show.specs.Dump.{dump_run}
 use Rattle.tl_show.specs.Which.{listed_run, list_run, which_run}
@@ -45,6 +50,12 @@ labelled-action (actions.Setting option values) repositories outside tree = labe
 labelled-action (actions.Pinning pins) repositories outside tree =
     labelled-over (λ entries. over_pins (pinning_run pins tree entries) tree) (database_text tree) (λ entries. labelled-pinning pins tree entries)
 labelled-action (actions.Which word) repositories outside tree = labelled-over (λ _. which_run word tree) (database_text tree) (λ entries. labelled-which word (at tree list_path))
+labelled-action (actions.Info name) repositories outside tree = labelled-info repositories outside.repositories tree name
+labelled-action (actions.Search word) repositories outside tree = labelled-search repositories outside.repositories tree word
+labelled-action (actions.Candidates name) repositories outside tree = labelled-candidates repositories outside.repositories tree name
+labelled-action (actions.Remove names force) repositories outside tree = labelled-remove names force tree
+labelled-action (actions.Backup names every) repositories outside tree = labelled-backup names every tree
+labelled-action actions.Lsr repositories outside tree = labelled-over (lsr_run tree) (database_text tree) (labelled-lsr tree)
 labelled-action _ repositories outside tree = tt
 
 labelled-act : (command : Option Command) (outside : Outside) (tree : Volume) → AreLabelled (act_at command outside tree).events

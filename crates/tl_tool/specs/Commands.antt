@@ -4,22 +4,30 @@ use Rattle.tl_model.specs.Volume.{Volume}
 use Rattle.tl_model.specs.Devices.{Outside}
 use Rattle.tl_tree.specs.Planted.{database_text}
 use Rattle.tl_action.specs.declared.action_name.ActionName.{ActionName}
-use Rattle.tl_action.specs.declared.action_name.ActionName.TheVariants.{DumpTlpdb, Check, Setting, Pinning, Which}
+use Rattle.tl_action.specs.declared.action_name.ActionName.TheVariants.{DumpTlpdb, Info, Search, Candidates, Check, Remove, Backup, Setting, Pinning, Lsr, Which}
 use Rattle.tl_action.specs.declared.command.Action.{Action}
 use Rattle.tl_action.specs.declared.command.Action.TheVariants as actions
 use Rattle.tl_action.specs.declared.command.Command.{Command}
 use Rattle.tl_action.specs.declared.command.Repository.{Repository}
-use Rattle.tl_action.specs.declared.table.OptionName.TheVariants.{Formats}
+use Rattle.tl_action.specs.declared.table.OptionName.TheVariants.{Formats, Usermode}
 use Rattle.tl_words.specs.declared.faults.Fault.{Fault}
 use Rattle.tl_words.specs.Parts.{Part}
-use Rattle.tl_words.specs.Faults.{words_fault, program_parts, plains}
+use Rattle.tl_words.specs.Faults.{words_fault, forbidden_fault, program_parts, plains}
+use Rattle.tl_words.specs.Order.{or_else}
 use Rattle.tl_words.specs.Settings.{repositories_of, workers_of, user_of, has_option}
 use Rattle.tl_words.specs.Commands.{first_action, first_word, action_of}
 use Rattle.tl_refusal.specs.declared.refusal.Refusal.TheVariants.{BadWords, BadJournal}
 use Rattle.tl_command.specs.Runs.{Run, finished, refused, over_database}
 use Rattle.tl_command.specs.Whole.{journal_place}
+use Rattle.tl_backups.specs.Backing.{backup_run}
+use Rattle.tl_packages.specs.Remove.{remove_run}
+use Rattle.tl_publish.specs.Lsr.{lsr_run}
+use Rattle.tl_show.specs.Candidates.{candidates_run}
 use Rattle.tl_show.specs.Check.{check_run}
 use Rattle.tl_show.specs.Dump.{dump_run}
+use Rattle.tl_show.specs.Info.{info_run}
+use Rattle.tl_show.specs.Opening.{over_offer}
+use Rattle.tl_show.specs.Search.{search_run}
 use Rattle.tl_show.specs.Which.{which_run}
 use Rattle.tl_offer.specs.Pinned.{over_pins}
 use Rattle.tl_settings.specs.Pinning.{pinning_run}
@@ -39,11 +47,15 @@ command_with root all name = record {
 
 -- the actions that the program carries out, and so are on
 abbrev pub built_actions : List ActionName
-built_actions = DumpTlpdb ∷ Check ∷ Setting ∷ Pinning ∷ Which ∷ []
+built_actions = DumpTlpdb ∷ Info ∷ Search ∷ Candidates ∷ Check ∷ Remove ∷ Backup ∷ Setting ∷ Pinning ∷ Lsr ∷ Which ∷ []
+
+-- the fault of words that ask for what no action of the program does yet: to change a user's tree, to name the formats to be made anew
+abbrev pub unbuilt_fault : List Part → Option Fault
+unbuilt_fault all = or_else (forbidden_fault Usermode all) (forbidden_fault Formats all)
 
 -- the first fault of the program's words
 abbrev pub program_fault : List (List ℕ) → Option Fault
-program_fault words = words_fault built_actions words
+program_fault words = or_else (words_fault built_actions words) (unbuilt_fault (program_parts words))
 
 -- the command that words without a fault ask for
 abbrev pub command_at : List (List ℕ) → Option Command
@@ -52,9 +64,15 @@ command_at words = option_map (command_with (first_word words) (program_parts wo
 -- the run of an action with these repositories; words never ask for one that isn't built
 abbrev pub action_run : Action → List Repository → Outside → Volume → Run
 action_run (actions.DumpTlpdb local) repositories outside tree = over_database dump_run (database_text tree)
+action_run (actions.Info name) repositories outside tree = over_offer repositories outside.repositories (info_run name) tree
+action_run (actions.Search word) repositories outside tree = over_offer repositories outside.repositories (search_run word) tree
+action_run (actions.Candidates name) repositories outside tree = over_offer repositories outside.repositories (candidates_run name) tree
 action_run (actions.Check what) repositories outside tree = over_database (check_run what tree) (database_text tree)
+action_run (actions.Remove names force) repositories outside tree = over_database (remove_run names force tree) (database_text tree)
+action_run (actions.Backup names every) repositories outside tree = over_database (backup_run names every tree) (database_text tree)
 action_run (actions.Setting option values) repositories outside tree = over_database (option_run option values tree) (database_text tree)
 action_run (actions.Pinning pins) repositories outside tree = over_database (λ entries. over_pins (pinning_run pins tree entries) tree) (database_text tree)
+action_run actions.Lsr repositories outside tree = over_database (lsr_run tree) (database_text tree)
 action_run (actions.Which word) repositories outside tree = over_database (λ _. which_run word tree) (database_text tree)
 action_run _ repositories outside tree = finished
 

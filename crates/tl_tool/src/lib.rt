@@ -1,6 +1,7 @@
 //! The top call of the program: it reads a command's words and carries the command out over the outside.
 #![tactic(auto)]
 
+mod acting;
 pub mod actions;
 mod top;
 

@@ -1,5 +1,5 @@
 //! The top call.
-ghost use Rattle.std.specs.Prelude.{◌≡◌, ◌≤◌, ◌+◌, Bool, Some, None, IsSome};
+ghost use Rattle.std.specs.Prelude.{◌≡◌, Bool, Some, None, IsSome, IfOk, IfErr, OnOk};
 ghost use Rattle.tl_model.specs.Devices.{Outside};
 ghost use Rattle.tl_model.specs.Seen.{Told};
 ghost use Rattle.tl_model.specs.Volume.{Volume};
@@ -7,45 +7,39 @@ ghost use Rattle.tl_journal_text.specs.Slots.{open_slot};
 ghost use Rattle.tl_journal_text.specs.Stand.{stand};
 ghost use Rattle.tl_action.specs.Actions.{IsOn};
 ghost use Rattle.tl_action.specs.Texts.{texts};
+ghost use Rattle.tl_words.specs.Commands.{HasRoot, IsCommandOf};
+ghost use Rattle.tl_words.specs.Errors.{IsErrorOf};
+ghost use Rattle.tl_words.specs.Faults.{program_parts};
 ghost use Rattle.tl_refusal.specs.declared.refusal.Refusal.TheVariants.{BadJournal};
 ghost use Rattle.tl_command.specs.Endings.{IsCarried, IsCaused, IsWordless};
 ghost use Rattle.tl_command.specs.Runs.{AreLabelled, refused};
 ghost use Rattle.tl_command.specs.Whole.{OnlySays, Runs, journal_place};
-ghost use Rattle.tl_tool.specs.Acts.{Acts, MakesRun};
+ghost use Rattle.tl_tool.specs.Acts.{MakesRun};
 ghost use Rattle.tl_tool.specs.Commands.{built_actions, program_fault, run_of, run_without, tells_all, tells_for};
 ghost use Rattle.tl_tool.specs.Outsides.{faults_of, outside_of, shelf_faults};
 ghost use Rattle.tl_tool.specs.Top.{AnswersWords};
 
-use crate::actions::{BUILT, check, dump_tlpdb, option, pinning, which};
+use crate::acting::act;
+use crate::actions::BUILT;
 use std::alloc::Global;
 use std::thread::Threads;
-use tl_command::{Acted, Ending, Refusal, Session, begin, end, refuse_at_once};
+use tl_command::{Ending, Refusal, begin, end, refuse_at_once};
 use tl_host::{Host, Shelf, Source};
 use tl_regexp::Regexps;
-use tl_words::{Action, Command, WordsError, read_words};
+use tl_words::{Command, OptionName, WordsError, read_words, refuse_option};
 
-// Carries a command out.
-fn act<H: Host, S: Shelf>(
-    alloc: Global,
-    command: Command,
-    shelf: &mut S,
-    session: Session<H>,
-) -> Acted<H>
-    requires { IsOn built_actions command.action }
-    ensures { Acts S.tells H.tells H.seen command session (S.seen shelf.old) (S.seen shelf.new) result.ending result.state }
+// The command that the program's words ask for: each of them, and each option, is carried out. `BadWords` is their first fault.
+fn read_command(alloc: Global, words: &[Vec<u8>]) -> Result<Command, WordsError>
+    ensures none { OnOk result (program_fault (texts words.now) ≡ None) }
+    ensures root { IfOk result (HasRoot (texts words.now)) }
+    ensures command { IfOk result (IsCommandOf built_actions (program_parts (texts words.now))) }
+    ensures on { IfOk result (λ command. IsOn built_actions command.action) }
+    ensures fault { IfErr result (IsErrorOf (program_fault (texts words.now))) }
 {
-    let Command { action, .. } = command;
-    match action {
-        Action::DumpTlpdb { local: _ } => dump_tlpdb(alloc, session),
-        Action::Check { what } => check(alloc, what, session),
-        Action::Setting {
-            option: name,
-            values,
-        } => option(alloc, name, values.as_slice(), session),
-        Action::Pinning { pins } => pinning(alloc, pins, session),
-        Action::Which { word } => which(alloc, word.as_slice(), session),
-        _ => unreachable!(),
-    }
+    let command = read_words(alloc, &BUILT, words)?;
+    refuse_option(OptionName::Usermode, words)?;
+    refuse_option(OptionName::Formats, words)?;
+    Ok(command)
 }
 
 // Recovers the volume, carries a command out over its tree, and ends the run.
@@ -98,7 +92,7 @@ pub fn texlive<R: Threads + Sync, H: Host, S: Shelf, I: Source>(
     ensures cause { IsCaused result.0 (H.seen host) (H.seen result.1)
         (faults_of (S.seen shelf.old) (I.seen input.old)) (faults_of (S.seen shelf.new) (I.seen input.new)) }
 {
-    match read_words(alloc, &BUILT, words) {
+    match read_command(alloc, words) {
         Ok(command) => start(alloc, command, shelf, host),
         Err(WordsError::BadWords { at, kind }) => {
             refuse_at_once(alloc, Refusal::BadWords { at, kind }, host)

@@ -13,8 +13,8 @@ pub(crate) fn path(rt: &impl Abort, alloc: Global, name: &str) -> Path {
         .expect(rt, "a path")
 }
 
-// A host that holds these files.
-pub(crate) fn host(rt: &impl Abort, alloc: Global, files: &[(&str, &[u8])]) -> MemHost {
+// These files, by their names.
+pub(crate) fn files(rt: &impl Abort, alloc: Global, files: &[(&str, &[u8])]) -> Vec<FileBytes> {
     let mut made = Vec::new(alloc);
     for (name, bytes) in files {
         let added = made.push(FileBytes {
@@ -23,7 +23,23 @@ pub(crate) fn host(rt: &impl Abort, alloc: Global, files: &[(&str, &[u8])]) -> M
         });
         added.ok().expect(rt, "memory");
     }
+    made
+}
+
+// A host that holds these files.
+pub(crate) fn host(rt: &impl Abort, alloc: Global, held: &[(&str, &[u8])]) -> MemHost {
+    let made = files(rt, alloc, held);
     MemHost::new(alloc, made).ok().expect(rt, "a host")
+}
+
+// A shelf of one repository that holds these files.
+pub(crate) fn shelf(rt: &impl Abort, alloc: Global, held: &[(&str, &[u8])]) -> MemShelf {
+    let mut repositories = Vec::new(alloc);
+    let added = repositories.push(files(rt, alloc, held));
+    added.ok().expect(rt, "memory");
+    MemShelf::new(alloc, repositories)
+        .ok()
+        .expect(rt, "a shelf")
 }
 
 pub(crate) fn bytes_of(rt: &impl Abort, alloc: Global, bytes: &[u8]) -> Vec<u8> {
@@ -48,7 +64,18 @@ pub(crate) fn carry_out<R: Abort + Threads + Sync>(
     host: MemHost,
 ) -> (Ending, MemHost) {
     let shelf = MemShelf::new(alloc, Vec::new(alloc));
-    let mut shelf = shelf.ok().expect(rt, "a shelf");
+    carry_out_over(rt, alloc, words, host, shelf.ok().expect(rt, "a shelf"))
+}
+
+// Carries words out over a host and a shelf, without input.
+pub(crate) fn carry_out_over<R: Abort + Threads + Sync>(
+    rt: &R,
+    alloc: Global,
+    words: &[Vec<u8>],
+    host: MemHost,
+    shelf: MemShelf,
+) -> (Ending, MemHost) {
+    let mut shelf = shelf;
     let mut input = MemSource::new(alloc, Vec::new(alloc));
     texlive(
         rt,

@@ -8,4 +8,6 @@ mod hosts;
 #[cfg(test)]
 mod pieces;
 #[cfg(test)]
+mod rows;
+#[cfg(test)]
 mod stops;
