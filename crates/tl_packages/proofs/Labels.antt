@@ -21,11 +21,13 @@ use Rattle.tl_plan.specs.declared.error.PlanError.TheVariants as plans
 use Rattle.tl_plan.proofs.PlanLaws.{removes_alone}
 use Rattle.tl_backup.specs.Autobackup.{autobackup}
 use Rattle.tl_command.specs.Labels.{step_label}
-use Rattle.tl_command.specs.Runs.{AreLabelled, over_database}
+use Rattle.tl_command.specs.Runs.{Run, AreLabelled, over_database}
 use Rattle.tl_command.specs.Steps.{running}
 use Rattle.tl_command.proofs.LabelLaws.{label-step}
 use Rattle.tl_command.proofs.Limits.{labelled-leaving}
-use Rattle.tl_packages.specs.Remove.{parts_of, plan_step, numbered, at_end, plan_made, plan_run, remove_run, changes_text, step_adding}
+use Rattle.tl_packages.specs.Remove.{parts_of, plan_step, numbered, plan_made, plan_run, remove_run, changes_text, step_adding}
+use Rattle.tl_formats.specs.Ending.{before_of, formats_end}
+use Rattle.tl_formats.proofs.ChangeLaws.{labelled-formats}
 use Rattle.tl_packages.proofs.Adding.{labelled-adding}
 use Rattle.tl_backups.proofs.Named.{AreNamed, read_named}
 use Rattle.tl_backups.proofs.ReadLabels.{labelled-read}
@@ -129,31 +131,32 @@ called name is =
     All-append (λ b. (b == 10) ≡ false) (codes "remove " ++ name) []
     (All-append (λ b. (b == 10) ≡ false) (codes "remove ") name (line_tested (codes "remove ") refl) is) (All-nil (λ b. (b == 10) ≡ false))
 
-labelled-steps : (count : ℕ) (names : List (List ℕ)) (from : ℕ) → AreLines names → count < 2 ^ 64 → from + length names < 2 ^ 64 → (db : List Object) (tree : Volume)
-    → AreLabelled (running (plan_step count) (numbered from (map (λ (name : List ℕ). Remove name ∷ []) names)) at_end db tree).events
-labelled-steps count [] from are small below db tree = tt
-labelled-steps count (name ∷ names) from are small below db tree =
+labelled-steps : (rest : List Object → Volume → Run) (count : ℕ) (names : List (List ℕ)) (from : ℕ) → AreLines names → count < 2 ^ 64 → from + length names < 2 ^ 64 → (db : List Object) (tree : Volume)
+    → (ended : (db : List Object) (tree : Volume) → AreLabelled (rest db tree).events)
+    → AreLabelled (running (plan_step count) (numbered from (map (λ (name : List ℕ). Remove name ∷ []) names)) rest db tree).events
+labelled-steps rest count [] from are small below db tree ended = ended db tree
+labelled-steps rest count (name ∷ names) from are small below db tree ended =
     let parts = parts_of (Remove name ∷ []) in
     let label = step_label from count (changes_text (Remove name ∷ [])) in
-    let rest = running (plan_step count) (numbered (from + 1) (map (λ (name : List ℕ). Remove name ∷ []) names)) at_end in
-    labelled-leaving (entries_after parts db) (step_adding (autobackup (name ∷ []) db tree) parts label rest db tree)
-    (labelled-adding (autobackup (name ∷ []) db tree) parts label rest db tree
+    let more = running (plan_step count) (numbered (from + 1) (map (λ (name : List ℕ). Remove name ∷ []) names)) rest in
+    labelled-leaving (entries_after parts db) (step_adding (autobackup (name ∷ []) db tree) parts label more db tree)
+    (labelled-adding (autobackup (name ∷ []) db tree) parts label more db tree
     (label-step from count (changes_text (Remove name ∷ [])) (omega (arith, below)) small (called name are.0))
-    (λ next. labelled-steps count names (from + 1) are.1 small (omega (arith, below)) (entries_after parts db) next))
+    (λ next. labelled-steps rest count names (from + 1) are.1 small (omega (arith, below)) (entries_after parts db) next ended))
 
-labelled-plan : (db : List Object) (names : List (List ℕ)) (force : Bool) (tree : Volume) → AreNamed db → length db ≤ 65536 → AreLabelled (remove_run names force tree db).events
-labelled-plan db names force tree are few = by (removal_of db names force) refl
+labelled-plan : (db : List Object) (names : List (List ℕ)) (force formats : Bool) (tree : Volume) → AreNamed db → length db ≤ 65536 → AreLabelled (remove_run names force formats tree db).events
+labelled-plan db names force formats tree are few = by (removal_of db names force) refl
   where
     order : List (List ℕ)
     order = removal_order db names
 
-    made : (steps : List (List Planned)) → map (λ (name : List ℕ). Remove name ∷ []) order ≡ steps → AreLabelled (plan_made steps db tree).events
-    made steps is = subst (λ (some : List (List Planned)). AreLabelled (plan_made some db tree).events) is
+    made : (steps : List (List Planned)) → map (λ (name : List ℕ). Remove name ∷ []) order ≡ steps → AreLabelled (plan_made formats steps db tree).events
+    made steps is = subst (λ (some : List (List Planned)). AreLabelled (plan_made formats some db tree).events) is
         (let short = order_short db names in
         let long = length-map order (λ (name : List ℕ). Remove name ∷ []) in
-        labelled-steps (length (map (λ (name : List ℕ). Remove name ∷ []) order)) order 1 (order_lines db names are) (omega (arith, short, few, long)) (omega (arith, short, few)) db tree)
+        labelled-steps (formats_end (before_of formats db)) (length (map (λ (name : List ℕ). Remove name ∷ []) order)) order 1 (order_lines db names are) (omega (arith, short, few, long)) (omega (arith, short, few)) db tree (labelled-formats (before_of formats db)))
 
-    by : (found : Result (List (List Planned)) PlanError) → removal_of db names force ≡ found → AreLabelled (plan_run found db tree).events
+    by : (found : Result (List (List Planned)) PlanError) → removal_of db names force ≡ found → AreLabelled (plan_run formats found db tree).events
     by (Ok steps) is = made steps (sym (removes_alone db order) ∙ steps_of (removal_fault db names force) (plan_steps db (map Remove order)) steps is)
     by (Err (plans.Protected name)) is = tt
     by (Err (plans.NotInstalled name)) is = tt
@@ -161,5 +164,5 @@ labelled-plan db names force tree are few = by (removal_of db names force) refl
     by (Err plans.NoMemory) is = tt
 
 -- the steps of a removal are labelled
-pub labelled-remove : (names : List (List ℕ)) (force : Bool) (tree : Volume) → AreLabelled (over_database (remove_run names force tree) (database_text tree)).events
-labelled-remove names force tree = labelled-read (remove_run names force tree) (database_text tree) (λ db is few. labelled-plan db names force tree (read_named (database_text tree) db is) few)
+pub labelled-remove : (names : List (List ℕ)) (force formats : Bool) (tree : Volume) → AreLabelled (over_database (remove_run names force formats tree) (database_text tree)).events
+labelled-remove names force formats tree = labelled-read (remove_run names force formats tree) (database_text tree) (λ db is few. labelled-plan db names force formats tree (read_named (database_text tree) db is) few)

@@ -1,6 +1,6 @@
 -- The steps of a plan: what each is called, and how they make the run of the plan.
 use Rattle.std.proofs.Common.{◌≡◌, ◌<◌, ◌+◌, ◌==◌, ℕ, zero, suc, Bool, true, false, List, [], ◌∷◌, ◌++◌, Option, Some, None, Result, Ok, Err, length, get_or, take, drop, map, refl, sym, ap, subst, ◌∙◌, arith}
-use Rattle.std.specs.Prelude.{codes, All}
+use Rattle.std.specs.Prelude.{codes, All, IfSome}
 use Rattle.std.specs.List.{flat_map, AllByRecursion, IsDistinct}
 use Rattle.std.proofs.lemmas.List.{drop_more, append_assoc, flat_map_more, map-append, take_more}
 use Rattle.std.proofs.lemmas.List.Elements.{All-nil, All-cons, All-append}
@@ -31,8 +31,12 @@ use Rattle.tl_command.specs.Endings.{no_devices}
 use Rattle.tl_command.specs.Performs.{Performs}
 use Rattle.tl_command.specs.Runs.{Run}
 use Rattle.tl_command.specs.Steps.{running}
+use Rattle.tl_trigger.specs.Stale.{HasChanges}
+use Rattle.tl_formats.specs.Ending.{before_of}
+use Rattle.tl_formats.proofs.ChangeLaws.{changes_after, changes_join}
+use Rattle.tl_tree.specs.Conditions.{spoken_names}
 use Rattle.tl_backups.specs.Continuing.{Continues}
-use Rattle.tl_packages.specs.Remove.{change_text, RemovesOne, left_in, part_of, parts_of, plan_step, numbered, at_end}
+use Rattle.tl_packages.specs.Remove.{change_text, RemovesOne, left_in, part_of, parts_of, plan_step, numbered, left_in_all}
 
 -- what a package that leaves is called
 pub line_of_removal : (name : List ℕ) → is_name name ≡ true → IsLine (codes "remove " ++ name)
@@ -112,23 +116,23 @@ left_at steps at planned lt is =
     (at_numbered 1 steps at planned (0, planned) lt ∙ ap (λ n. (n, get_or steps at planned)) (omega arith) ∙ ap (λ (p : List Planned). (at + 1, p)) (sym is))
 
 module _ {T : Type 0} (tells : Bool) (seen : T → Seen) (count : ℕ) (steps : List (List Planned)) (at : ℕ) (planned : List Planned) (lt : at < length steps) (is : planned ≡ get_or steps at planned)
-    (old : Planted) (ending : Ending) (state : Result Seen T) where
+    (old : Planted) (rest : List Object → Volume → Run) (ending : Ending) (state : Result Seen T) where
   -- a step that was made, and then the steps behind it
   pub step_made : (new : Planted) → Continues tells seen (plan_step count (at + 1, planned)) old new
-      → Performs tells seen (λ t. running (plan_step count) (drop (at + 1) (numbered 1 steps)) at_end new.db t) 0 new.seen no_devices no_devices ending state
-      → Performs tells seen (λ t. running (plan_step count) (drop at (numbered 1 steps)) at_end old.db t) 0 old.seen no_devices no_devices ending state
+      → Performs tells seen (λ t. running (plan_step count) (drop (at + 1) (numbered 1 steps)) rest new.db t) 0 new.seen no_devices no_devices ending state
+      → Performs tells seen (λ t. running (plan_step count) (drop at (numbered 1 steps)) rest old.db t) 0 old.seen no_devices no_devices ending state
   step_made new made performs =
       let items = drop (at + 1) (numbered 1 steps) in
-      subst (λ (all : List (ℕ × List Planned)). Performs tells seen (λ t. running (plan_step count) all at_end old.db t) 0 old.seen no_devices no_devices ending state) (sym (left_at steps at planned lt is))
-      (made.on (running (plan_step count) items at_end) ending state performs)
+      subst (λ (all : List (ℕ × List Planned)). Performs tells seen (λ t. running (plan_step count) all rest old.db t) 0 old.seen no_devices no_devices ending state) (sym (left_at steps at planned lt is))
+      (made.on (running (plan_step count) items rest) ending state performs)
 
   -- a step that wasn't made
-  pub step_ended : ((rest : List Object → Volume → Run) → Performs tells seen (λ t. plan_step count (at + 1, planned) rest old.db t) 0 old.seen no_devices no_devices ending state)
-      → Performs tells seen (λ t. running (plan_step count) (drop at (numbered 1 steps)) at_end old.db t) 0 old.seen no_devices no_devices ending state
+  pub step_ended : ((more : List Object → Volume → Run) → Performs tells seen (λ t. plan_step count (at + 1, planned) more old.db t) 0 old.seen no_devices no_devices ending state)
+      → Performs tells seen (λ t. running (plan_step count) (drop at (numbered 1 steps)) rest old.db t) 0 old.seen no_devices no_devices ending state
   step_ended acted =
       let items = drop (at + 1) (numbered 1 steps) in
-      subst (λ (all : List (ℕ × List Planned)). Performs tells seen (λ t. running (plan_step count) all at_end old.db t) 0 old.seen no_devices no_devices ending state) (sym (left_at steps at planned lt is))
-      (acted (running (plan_step count) items at_end))
+      subst (λ (all : List (ℕ × List Planned)). Performs tells seen (λ t. running (plan_step count) all rest old.db t) 0 old.seen no_devices no_devices ending state) (sym (left_at steps at planned lt is))
+      (acted (running (plan_step count) items rest))
 
 -- what further parts of a plan are called, with one more
 pub more_said : (start before mid after : List ℕ) (more : List Planned) (i : ℕ) (part : Planned) → i < length more → part ≡ get_or more i part
@@ -148,3 +152,29 @@ more_line before mid after part far near comma is =
 -- a removal that has a fault
 pub refused_by : (db : List Object) (names : List (List ℕ)) (force : Bool) (fault : PlanError) → removal_fault db names force ≡ Some fault → removal_of db names force ≡ Err fault
 refused_by db names force fault is = ap (λ (o : Option PlanError). steps_unless o (plan_steps db (map Remove (removal_order db names)))) is
+
+-- ---- the names at which the entries change
+
+-- a step speaks of what leaves or is replaced in it
+spoken-left : (step : List Planned) → spoken_names (parts_of step) ≡ left_in step
+spoken-left [] = refl
+spoken-left (Remove name ∷ step) = ap (λ (l : List (List ℕ)). name ∷ l) (spoken-left step)
+
+-- one step more
+pub changes_more : (steps : List (List Planned)) (at : ℕ) (planned : List Planned) (old mid new : List Object) → at < length steps → planned ≡ get_or steps at planned
+    → HasChanges old mid (left_in_all (take at steps)) → new ≡ entries_after (parts_of planned) mid → HasChanges old new (left_in_all (take (at + 1) steps))
+changes_more steps at planned old mid new lt is far near =
+    let names : left_in_all (take at steps) ++ left_in planned ≡ left_in_all (take (at + 1) steps) =
+    flat_map_more left_in [] (take at steps) planned ∙ ap (λ (p : List Planned). left_in_all (take at steps ++ p ∷ [])) is ∙ ap left_in_all (sym (take_more steps at planned lt)) in
+    subst (HasChanges old new) names
+    (changes_join old mid new (left_in_all (take at steps)) (left_in planned) far
+    (subst (λ (db : List Object). HasChanges mid db (left_in planned)) (sym near) (subst (HasChanges mid (entries_after (parts_of planned) mid)) (spoken-left planned) (changes_after (parts_of planned) mid))))
+
+-- what is asked of the names behind all steps
+pub before_changes : (formats : Bool) (old new : List Object) (names : List (List ℕ)) (before : Option (List Object)) → before ≡ before_of formats old → HasChanges old new names
+    → IfSome before (λ db. HasChanges db new names)
+before_changes formats old new names before is changes = subst (λ (o : Option (List Object)). IfSome o (λ db. HasChanges db new names)) (sym is) (by formats)
+  where
+    by : (formats : Bool) → IfSome (before_of formats old) (λ db. HasChanges db new names)
+    by false = tt
+    by true = changes

@@ -19,6 +19,7 @@ use Rattle.tl_command.specs.Labels.{step_label}
 use Rattle.tl_command.specs.Runs.{Run, changing_entries, finished, followed, refused}
 use Rattle.tl_command.specs.Steps.{running}
 use Rattle.tl_backups.specs.Faults.{faulted}
+use Rattle.tl_formats.specs.Ending.{before_of, formats_end}
 
 -- what a part of a plan is called where its step is acknowledged
 abbrev pub change_text : Planned → List ℕ
@@ -49,6 +50,10 @@ name_left (Remove name) = name ∷ []
 abbrev pub left_in : List Planned → List (List ℕ)
 left_in step = flat_map name_left step
 
+-- the names of the packages that leave or are replaced in some steps of a plan
+abbrev pub left_in_all : List (List Planned) → List (List ℕ)
+left_in_all steps = flat_map left_in steps
+
 -- the run of a step that does this to the tree with what is added to it, before what comes behind it; or of the fault of that
 abbrev pub step_adding : Result (List Part) BackupError → List Part → List ℕ → (List Object → Volume → Run) → List Object → Volume → Run
 step_adding (Err fault) parts label rest db tree = faulted fault
@@ -66,22 +71,22 @@ abbrev pub numbered : {A : Type 0} → ℕ → List A → List (ℕ × A)
 numbered from [] = []
 numbered from (x ∷ xs) = (from, x) ∷ numbered (from + 1) xs
 
--- the run that has nothing left to do, whatever the tree
-abbrev pub at_end : List Object → Volume → Run
-at_end db tree = finished
+-- the run that makes the steps of a plan, and then goes on
+abbrev pub each_step_run : List (List Planned) → (List Object → Volume → Run) → List Object → Volume → Run
+each_step_run steps rest db tree = running (plan_step (length steps)) (numbered 1 steps) rest db tree
 
--- the run that makes the steps of a plan
-abbrev pub plan_made : List (List Planned) → List Object → Volume → Run
-plan_made steps db tree = running (plan_step (length steps)) (numbered 1 steps) at_end db tree
+-- the run that makes the steps of a plan, and then says the formats to be made anew, where they are asked for
+abbrev pub plan_made : Bool → List (List Planned) → List Object → Volume → Run
+plan_made formats steps db tree = each_step_run steps (formats_end (before_of formats db)) db tree
 
 -- the run that makes the steps of a plan, or refuses where there is none; want of memory isn't an answer of a plan
-abbrev pub plan_run : Result (List (List Planned)) PlanError → List Object → Volume → Run
-plan_run (Ok steps) db tree = plan_made steps db tree
-plan_run (Err (plans.Protected name)) db tree = refused (Protected name)
-plan_run (Err (plans.NotInstalled name)) db tree = refused (NotInstalled name)
-plan_run (Err (plans.Needed name by)) db tree = refused (Needed name by)
-plan_run (Err plans.NoMemory) db tree = finished
+abbrev pub plan_run : Bool → Result (List (List Planned)) PlanError → List Object → Volume → Run
+plan_run formats (Ok steps) db tree = plan_made formats steps db tree
+plan_run formats (Err (plans.Protected name)) db tree = refused (Protected name)
+plan_run formats (Err (plans.NotInstalled name)) db tree = refused (NotInstalled name)
+plan_run formats (Err (plans.Needed name by)) db tree = refused (Needed name by)
+plan_run formats (Err plans.NoMemory) db tree = finished
 
 -- the run of `remove` over a tree with these entries
-abbrev pub remove_run : List (List ℕ) → Bool → Volume → List Object → Run
-remove_run names force tree db = plan_run (removal_of db names force) db tree
+abbrev pub remove_run : List (List ℕ) → Bool → Bool → Volume → List Object → Run
+remove_run names force formats tree db = plan_run formats (removal_of db names force) db tree

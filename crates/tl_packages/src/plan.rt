@@ -1,5 +1,5 @@
 //! The steps of a plan, made one after the other.
-ghost use Rattle.std.specs.Prelude.{◌≡◌, ◌++◌, codes, List, All, IfOk, IfErr, OnOk, string_bytes};
+ghost use Rattle.std.specs.Prelude.{◌≡◌, ◌++◌, codes, List, All, IfOk, IfErr, IfSome, OnOk, string_bytes};
 ghost use Rattle.std.specs.List.{flat_map};
 ghost use Rattle.tl_model.specs.Acks.{IsLabel};
 ghost use Rattle.tl_model.specs.Lines.{IsLine};
@@ -11,15 +11,22 @@ ghost use Rattle.tl_command.specs.Labels.{step_label};
 ghost use Rattle.tl_command.specs.Loaded.{Steps};
 ghost use Rattle.tl_command.specs.Performs.{Performs};
 ghost use Rattle.tl_command.specs.Runs.{Run, stepping};
+ghost use Rattle.tl_trigger.specs.Stale.{HasChanges};
+ghost use Rattle.tl_tree.specs.Changes.{entries_after};
+ghost use Rattle.tl_formats.specs.Ending.{formats_end};
 ghost use Rattle.tl_backups.specs.Continuing.{Continues};
-ghost use Rattle.tl_packages.specs.Remove.{change_text, changes_text, RemovesOne, part_of, parts_of, plan_made, plan_step};
+ghost use Rattle.tl_packages.specs.Remove.{change_text, changes_text, RemovesOne, left_in_all, part_of, parts_of};
+ghost use Rattle.tl_packages.specs.Remove.{plan_made, plan_step, each_step_run};
 
 use crate::added::{fault_ends_step, left_in};
 use std::alloc::{AllocError, Global};
 use tl_backup::autobackup;
-use tl_command::{Acted, Session, finish, give_up, step, step_label};
+use tl_command::{Acted, Session, give_up, step, step_label};
+use tl_db::Db;
 use tl_file::Bytes;
+use tl_formats::{before, end};
 use tl_host::Host;
+use tl_path::Name;
 use tl_plan::{Planned, PlannedStep};
 use tl_tree::{Change, Part, PartList, Tree};
 
@@ -158,6 +165,7 @@ fn make<H: Host>(
 ) -> Result<Tree<H>, Acted<H>>
     requires { RemovesOne planned.now }
     ensures made { IfOk result (λ next. Continues H.tells H.seen (plan_step count (number, planned.now)) tree next) }
+    ensures db { IfOk result (λ next. next.db ≡ entries_after (parts_of planned.now) tree.db) }
     ensures acted { IfErr result (λ acted. (rest : List Object → Volume → Run) → Performs H.tells H.seen
         (λ t. plan_step count (number, planned.now) rest tree.db t) 0 tree.seen no_devices no_devices acted.ending acted.state) }
 {
@@ -172,18 +180,73 @@ fn make<H: Host>(
     }
 }
 
-/// Makes the steps of a plan, and ends with a command that was carried out.
-pub fn make_steps<H: Host>(alloc: Global, steps: &[PlannedStep], tree: Tree<H>) -> Acted<H>
+// Makes the steps of a plan; or, where one of them isn't made, how the command ends, whatever it would have done behind them.
+fn make_all<H: Host>(
+    alloc: Global,
+    steps: &[PlannedStep],
+    tree: Tree<H>,
+) -> Result<Tree<H>, Acted<H>>
     requires { All RemovesOne steps.now }
-    ensures { Performs H.tells H.seen (λ t. plan_made steps.now tree.db t)
-        0 tree.seen no_devices no_devices result.ending result.state }
+    ensures made { IfOk result (λ last. Continues H.tells H.seen (each_step_run steps.now) tree last) }
+    ensures changes { IfOk result (λ last. HasChanges tree.db last.db (left_in_all steps.now)) }
+    ensures acted { IfErr result (λ acted. (rest : List Object → Volume → Run) → Performs H.tells H.seen
+        (λ t. each_step_run steps.now rest tree.db t) 0 tree.seen no_devices no_devices acted.ending acted.state) }
 {
     let mut tree = tree;
     for (at, planned) in steps.iter().enumerate() {
         tree = match make(alloc, at + 1, steps.len(), planned, tree) {
             Ok(next) => next,
-            Err(acted) => return acted,
+            Err(acted) => return Err(acted),
         };
     }
-    finish(Session::of_tree(tree))
+    Ok(tree)
+}
+
+// The names of the packages that leave or are replaced in some steps.
+fn left_in_all(alloc: Global, steps: &[PlannedStep]) -> Result<Vec<Name>, AllocError>
+    ensures { IfOk result (λ names. names.items ≡ left_in_all steps.now) }
+{
+    let mut names = Vec::new(alloc);
+    for planned in steps {
+        let mut left = left_in(alloc, planned)?;
+        names.append(&mut left)?;
+    }
+    Ok(names)
+}
+
+// Ends a command whose steps are made; `before` is the database before the first one, where the formats to be made anew are asked for.
+fn end_steps<H: Host>(
+    alloc: Global,
+    before: Option<Db>,
+    steps: &[PlannedStep],
+    tree: Tree<H>,
+) -> Acted<H>
+    requires { IfSome before (λ old. HasChanges old tree.db (left_in_all steps.now)) }
+    ensures { Performs H.tells H.seen (λ t. formats_end before tree.db t)
+        0 tree.seen no_devices no_devices result.ending result.state }
+{
+    match left_in_all(alloc, steps) {
+        Ok(names) => end(alloc, before, &names, tree),
+        Err(_) => give_up(Session::of_tree(tree)),
+    }
+}
+
+/// Makes the steps of a plan, and ends with a command that was carried out; with `formats` it says the formats to be made anew.
+pub fn make_steps<H: Host>(
+    alloc: Global,
+    steps: &[PlannedStep],
+    formats: bool,
+    tree: Tree<H>,
+) -> Acted<H>
+    requires { All RemovesOne steps.now }
+    ensures { Performs H.tells H.seen (λ t. plan_made formats steps.now tree.db t)
+        0 tree.seen no_devices no_devices result.ending result.state }
+{
+    let Ok(before) = before(alloc, formats, tree.db()) else {
+        return give_up(Session::of_tree(tree));
+    };
+    match make_all(alloc, steps, tree) {
+        Ok(last) => end_steps(alloc, before, steps, last),
+        Err(acted) => acted,
+    }
 }

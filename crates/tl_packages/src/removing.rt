@@ -14,12 +14,18 @@ use tl_plan::{PlanError, plan_remove};
 use tl_tree::Tree;
 
 // Removes packages of a tree.
-fn remove_from<H: Host>(alloc: Global, names: &[Name], force: bool, tree: Tree<H>) -> Acted<H>
-    ensures { Performs H.tells H.seen (λ t. remove_run names.now force t tree.db)
+fn remove_from<H: Host>(
+    alloc: Global,
+    names: &[Name],
+    force: bool,
+    formats: bool,
+    tree: Tree<H>,
+) -> Acted<H>
+    ensures { Performs H.tells H.seen (λ t. remove_run names.now force formats t tree.db)
         0 tree.seen no_devices no_devices result.ending result.state }
 {
     match plan_remove(alloc, &tree, names, force) {
-        Ok(steps) => make_steps(alloc, &steps, tree),
+        Ok(steps) => make_steps(alloc, &steps, formats, tree),
         Err(PlanError::Protected { name }) => {
             let refusal = Refusal::Protected { name };
             refuse(alloc, refusal, Session::of_tree(tree))
@@ -42,12 +48,18 @@ fn remove_from<H: Host>(alloc: Global, names: &[Name], force: bool, tree: Tree<H
 /// `Protected` at the first asked name that the tree keeps for itself, else `NotInstalled` at the first that isn't installed, else,
 /// without `force`, `Needed` at the first that a collection or a scheme needs which isn't asked for, else `TooLarge` where the database
 /// that a step would leave passes a limit.
-pub fn remove<H: Host>(alloc: Global, names: &[Name], force: bool, session: Session<H>) -> Acted<H>
-    ensures { Performs H.tells H.seen (λ tree. over_database (remove_run names.now force tree) (database_text tree))
+pub fn remove<H: Host>(
+    alloc: Global,
+    names: &[Name],
+    force: bool,
+    formats: bool,
+    session: Session<H>,
+) -> Acted<H>
+    ensures { Performs H.tells H.seen (λ tree. over_database (remove_run names.now force formats tree) (database_text tree))
         0 session no_devices no_devices result.ending result.state }
 {
     match load(alloc, session) {
-        Ok(tree) => remove_from(alloc, names, force, tree),
+        Ok(tree) => remove_from(alloc, names, force, formats, tree),
         Err(acted) => acted,
     }
 }

@@ -35,13 +35,13 @@ tells_all-host action shelf input host told =
     (both (not (reads_input action) || input) host parts.1).1
 
 -- an action that was carried out as this one, which it is
-pub acts_as : {T : Type 0} (host : Bool) (seen : T → Seen) (action this : Action) (first : Seen) (ending : Ending) (state : Result Seen T)
-    → action ≡ this → ActsAlone host seen this first ending state → ActsAlone host seen action first ending state
-acts_as host seen action this first ending state is acts = subst (λ (a : Action). ActsAlone host seen a first ending state) (sym is) acts
+pub acts_as : {T : Type 0} (host : Bool) (seen : T → Seen) (action this : Action) (formats : Bool) (first : Seen) (ending : Ending) (state : Result Seen T)
+    → action ≡ this → ActsAlone host seen this formats first ending state → ActsAlone host seen action formats first ending state
+acts_as host seen action this formats first ending state is acts = subst (λ (a : Action). ActsAlone host seen a formats first ending state) (sym is) acts
 
 -- a command that reads neither repositories nor the input
 pub acts-alone : {T : Type 0} (shelf host : Bool) (seen : T → Seen) (command : Command) (first : Seen) (old : ShelfSeen) (ending : Ending) (state : Result Seen T)
-    → ActsAlone host seen command.action first ending state → Acts shelf host seen command first old old ending state
+    → ActsAlone host seen command.action command.formats first ending state → Acts shelf host seen command first old old ending state
 acts-alone shelf host seen command first old ending state performs outside input same =
     performs_fewer (tells_all command.action shelf input host) host (tells_all-host command.action shelf input host) seen 0 first (shelf_faults old) (shelf_faults old) ending state (act_of command outside)
     (performs_alone host seen 0 first (shelf_faults old) (shelf_faults old) ending state (act_of command outside) (performs command.repositories outside))
@@ -53,19 +53,19 @@ told_over action shelf input host over told =
     subst (λ b. (b && host) ≡ true) (sym of_shelf) (both (not (reads_input action) || input) host parts.1).1
 
 -- what holds of an action's run over the repositories alone holds of it over all that is outside
-over_shelf-run : (P : (Volume → Run) → Type 0) (action : Action) (repositories : List Repository) (outside : Outside) (old : ShelfSeen) → reads_repositories action ≡ true
-    → outside.repositories ≡ old.repositories → P (action_run action repositories (over_shelf old)) → P (action_run action repositories outside)
-over_shelf-run P (actions.Info name) repositories outside old over same p = subst (λ volumes. P (over_offer repositories volumes (info_run name))) (sym same) p
-over_shelf-run P (actions.Search word) repositories outside old over same p = subst (λ volumes. P (over_offer repositories volumes (search_run word))) (sym same) p
-over_shelf-run P (actions.Candidates name) repositories outside old over same p = subst (λ volumes. P (over_offer repositories volumes (candidates_run name))) (sym same) p
-over_shelf-run P _ repositories outside old over same p = p
+over_shelf-run : (P : (Volume → Run) → Type 0) (action : Action) (repositories : List Repository) (formats : Bool) (outside : Outside) (old : ShelfSeen) → reads_repositories action ≡ true
+    → outside.repositories ≡ old.repositories → P (action_run action repositories formats (over_shelf old)) → P (action_run action repositories formats outside)
+over_shelf-run P (actions.Info name) repositories formats outside old over same p = subst (λ volumes. P (over_offer repositories volumes (info_run name))) (sym same) p
+over_shelf-run P (actions.Search word) repositories formats outside old over same p = subst (λ volumes. P (over_offer repositories volumes (search_run word))) (sym same) p
+over_shelf-run P (actions.Candidates name) repositories formats outside old over same p = subst (λ volumes. P (over_offer repositories volumes (candidates_run name))) (sym same) p
+over_shelf-run P _ repositories formats outside old over same p = p
 
 -- a command that reads repositories and not the input
 pub acts-over : {T : Type 0} (shelf host : Bool) (seen : T → Seen) (command : Command) (first : Seen) (old new : ShelfSeen) (ending : Ending) (state : Result Seen T) → reads_repositories command.action ≡ true
-    → ActsOver shelf host seen command.action command.repositories first old new ending state → Acts shelf host seen command first old new ending state
+    → ActsOver shelf host seen command.action command.repositories command.formats first old new ending state → Acts shelf host seen command first old new ending state
 acts-over shelf host seen command first old new ending state over performs outside input same =
     performs_fewer (tells_all command.action shelf input host) (shelf && host) (told_over command.action shelf input host over) seen 0 first (shelf_faults old) (shelf_faults new) ending state (act_of command outside)
-    (over_shelf-run (λ run. Performs (shelf && host) seen run 0 first (shelf_faults old) (shelf_faults new) ending state) command.action command.repositories outside old over same performs)
+    (over_shelf-run (λ run. Performs (shelf && host) seen run 0 first (shelf_faults old) (shelf_faults new) ending state) command.action command.repositories command.formats outside old over same performs)
 
 -- the cause of an ending of a command that is given no input, beside any
 pub caused-beside : (ending : Ending) (first last : Seen) (old new : ShelfSeen) (left lost : SourceSeen) → IsCaused ending first last (shelf_faults old) (shelf_faults new)

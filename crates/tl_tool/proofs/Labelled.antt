@@ -43,24 +43,24 @@ labelled-which name (Some text) = by (nat_lt (limit_of Database) (length text))
     by true = tt
     by false = labelled-listed name (lsr_read text)
 
-labelled-action : (action : Action) (repositories : List Repository) (outside : Outside) (tree : Volume) → AreLabelled (action_run action repositories outside tree).events
-labelled-action (actions.DumpTlpdb local) repositories outside tree = labelled-over dump_run (database_text tree) (λ entries. tt)
-labelled-action (actions.Check what) repositories outside tree = labelled-over (check_run what tree) (database_text tree) (λ entries. tt)
-labelled-action (actions.Setting option values) repositories outside tree = labelled-over (option_run option values tree) (database_text tree) (λ entries. labelled-option option values tree entries)
-labelled-action (actions.Pinning pins) repositories outside tree =
+labelled-action : (action : Action) (repositories : List Repository) (formats : Bool) (outside : Outside) (tree : Volume) → AreLabelled (action_run action repositories formats outside tree).events
+labelled-action (actions.DumpTlpdb local) repositories formats outside tree = labelled-over dump_run (database_text tree) (λ entries. tt)
+labelled-action (actions.Check what) repositories formats outside tree = labelled-over (check_run what tree) (database_text tree) (λ entries. tt)
+labelled-action (actions.Setting option values) repositories formats outside tree = labelled-over (option_run option values tree) (database_text tree) (λ entries. labelled-option option values tree entries)
+labelled-action (actions.Pinning pins) repositories formats outside tree =
     labelled-over (λ entries. over_pins (pinning_run pins tree entries) tree) (database_text tree) (λ entries. labelled-pinning pins tree entries)
-labelled-action (actions.Which word) repositories outside tree = labelled-over (λ _. which_run word tree) (database_text tree) (λ entries. labelled-which word (at tree list_path))
-labelled-action (actions.Info name) repositories outside tree = labelled-info repositories outside.repositories tree name
-labelled-action (actions.Search word) repositories outside tree = labelled-search repositories outside.repositories tree word
-labelled-action (actions.Candidates name) repositories outside tree = labelled-candidates repositories outside.repositories tree name
-labelled-action (actions.Remove names force) repositories outside tree = labelled-remove names force tree
-labelled-action (actions.Backup names every) repositories outside tree = labelled-backup names every tree
-labelled-action actions.Lsr repositories outside tree = labelled-over (lsr_run tree) (database_text tree) (labelled-lsr tree)
-labelled-action _ repositories outside tree = tt
+labelled-action (actions.Which word) repositories formats outside tree = labelled-over (λ _. which_run word tree) (database_text tree) (λ entries. labelled-which word (at tree list_path))
+labelled-action (actions.Info name) repositories formats outside tree = labelled-info repositories outside.repositories tree name
+labelled-action (actions.Search word) repositories formats outside tree = labelled-search repositories outside.repositories tree word
+labelled-action (actions.Candidates name) repositories formats outside tree = labelled-candidates repositories outside.repositories tree name
+labelled-action (actions.Remove names force) repositories formats outside tree = labelled-remove names force formats tree
+labelled-action (actions.Backup names every) repositories formats outside tree = labelled-backup names every tree
+labelled-action actions.Lsr repositories formats outside tree = labelled-over (lsr_run tree) (database_text tree) (labelled-lsr tree)
+labelled-action _ repositories formats outside tree = tt
 
 labelled-act : (command : Option Command) (outside : Outside) (tree : Volume) → AreLabelled (act_at command outside tree).events
 labelled-act None outside tree = tt
-labelled-act (Some command) outside tree = labelled-action command.action command.repositories outside tree
+labelled-act (Some command) outside tree = labelled-action command.action command.repositories command.formats outside tree
 
 -- the steps of the run of words are labelled
 pub labelled-run : (words : List (List ℕ)) (outside : Outside) (tree : Volume) → AreLabelled (run_of words outside tree).events

@@ -20,15 +20,15 @@ abbrev pub Acts : {T : Type 0} → Bool → Bool → (T → Seen) → Command �
 Acts shelf host seen command first old new ending state = (outside : Outside) (input : Bool) → outside.repositories ≡ old.repositories
     → Performs (tells_all command.action shelf input host) seen (act_of command outside) 0 first (shelf_faults old) (shelf_faults new) ending state
 
--- an action was carried out that reads neither repositories nor the input, whatever is outside
-abbrev pub ActsAlone : {T : Type 0} → Bool → (T → Seen) → Action → Seen → Ending → Result Seen T → Type 0
-ActsAlone host seen action first ending state = (repositories : List Repository) (outside : Outside)
-    → Performs host seen (action_run action repositories outside) 0 first no_devices no_devices ending state
+-- an action was carried out, with formats or without, that reads neither repositories nor the input, whatever is outside
+abbrev pub ActsAlone : {T : Type 0} → Bool → (T → Seen) → Action → Bool → Seen → Ending → Result Seen T → Type 0
+ActsAlone host seen action formats first ending state = (repositories : List Repository) (outside : Outside)
+    → Performs host seen (action_run action repositories formats outside) 0 first no_devices no_devices ending state
 
 -- an action was carried out with these repositories over a shelf that was seen as old before and as new after
-abbrev pub ActsOver : {T : Type 0} → Bool → Bool → (T → Seen) → Action → List Repository → Seen → ShelfSeen → ShelfSeen → Ending → Result Seen T → Type 0
-ActsOver shelf host seen action repositories first old new ending state =
-    Performs (shelf && host) seen (action_run action repositories (over_shelf old)) 0 first (shelf_faults old) (shelf_faults new) ending state
+abbrev pub ActsOver : {T : Type 0} → Bool → Bool → (T → Seen) → Action → List Repository → Bool → Seen → ShelfSeen → ShelfSeen → Ending → Result Seen T → Type 0
+ActsOver shelf host seen action repositories formats first old new ending state =
+    Performs (shelf && host) seen (action_run action repositories formats (over_shelf old)) 0 first (shelf_faults old) (shelf_faults new) ending state
 
 -- the run of a command was made from first to last, whatever else is outside
 abbrev pub MakesRun : Bool → Bool → Command → Ending → Seen → Seen → ShelfSeen → Type 0

@@ -49,36 +49,36 @@ command_with root all name = record {
 abbrev pub built_actions : List ActionName
 built_actions = DumpTlpdb ∷ Info ∷ Search ∷ Candidates ∷ Check ∷ Remove ∷ Backup ∷ Setting ∷ Pinning ∷ Lsr ∷ Which ∷ []
 
--- the fault of words that ask for what no action of the program does yet: to change a user's tree, to name the formats to be made anew
-abbrev pub unbuilt_fault : List Part → Option Fault
-unbuilt_fault all = or_else (forbidden_fault Usermode all) (forbidden_fault Formats all)
+-- the fault of words that ask for what no action of the program does: to change a user's tree
+abbrev pub user_tree_fault : List Part → Option Fault
+user_tree_fault all = forbidden_fault Usermode all
 
 -- the first fault of the program's words
 abbrev pub program_fault : List (List ℕ) → Option Fault
-program_fault words = or_else (words_fault built_actions words) (unbuilt_fault (program_parts words))
+program_fault words = or_else (words_fault built_actions words) (user_tree_fault (program_parts words))
 
 -- the command that words without a fault ask for
 abbrev pub command_at : List (List ℕ) → Option Command
 command_at words = option_map (command_with (first_word words) (program_parts words)) (first_action built_actions (plains (program_parts words)))
 
--- the run of an action with these repositories; words never ask for one that isn't built
-abbrev pub action_run : Action → List Repository → Outside → Volume → Run
-action_run (actions.DumpTlpdb local) repositories outside tree = over_database dump_run (database_text tree)
-action_run (actions.Info name) repositories outside tree = over_offer repositories outside.repositories (info_run name) tree
-action_run (actions.Search word) repositories outside tree = over_offer repositories outside.repositories (search_run word) tree
-action_run (actions.Candidates name) repositories outside tree = over_offer repositories outside.repositories (candidates_run name) tree
-action_run (actions.Check what) repositories outside tree = over_database (check_run what tree) (database_text tree)
-action_run (actions.Remove names force) repositories outside tree = over_database (remove_run names force tree) (database_text tree)
-action_run (actions.Backup names every) repositories outside tree = over_database (backup_run names every tree) (database_text tree)
-action_run (actions.Setting option values) repositories outside tree = over_database (option_run option values tree) (database_text tree)
-action_run (actions.Pinning pins) repositories outside tree = over_database (λ entries. over_pins (pinning_run pins tree entries) tree) (database_text tree)
-action_run actions.Lsr repositories outside tree = over_database (lsr_run tree) (database_text tree)
-action_run (actions.Which word) repositories outside tree = over_database (λ _. which_run word tree) (database_text tree)
-action_run _ repositories outside tree = finished
+-- the run of an action with these repositories, and with formats or without; words never ask for one that isn't built
+abbrev pub action_run : Action → List Repository → Bool → Outside → Volume → Run
+action_run (actions.DumpTlpdb local) repositories formats outside tree = over_database dump_run (database_text tree)
+action_run (actions.Info name) repositories formats outside tree = over_offer repositories outside.repositories (info_run name) tree
+action_run (actions.Search word) repositories formats outside tree = over_offer repositories outside.repositories (search_run word) tree
+action_run (actions.Candidates name) repositories formats outside tree = over_offer repositories outside.repositories (candidates_run name) tree
+action_run (actions.Check what) repositories formats outside tree = over_database (check_run what tree) (database_text tree)
+action_run (actions.Remove names force) repositories formats outside tree = over_database (remove_run names force formats tree) (database_text tree)
+action_run (actions.Backup names every) repositories formats outside tree = over_database (backup_run names every tree) (database_text tree)
+action_run (actions.Setting option values) repositories formats outside tree = over_database (option_run option values tree) (database_text tree)
+action_run (actions.Pinning pins) repositories formats outside tree = over_database (λ entries. over_pins (pinning_run pins tree entries) tree) (database_text tree)
+action_run actions.Lsr repositories formats outside tree = over_database (lsr_run tree) (database_text tree)
+action_run (actions.Which word) repositories formats outside tree = over_database (λ _. which_run word tree) (database_text tree)
+action_run _ repositories formats outside tree = finished
 
 -- the run of a command over a tree and the outside
 abbrev pub act_of : Command → Outside → Volume → Run
-act_of command outside tree = action_run command.action command.repositories outside tree
+act_of command outside tree = action_run command.action command.repositories command.formats outside tree
 
 -- the run of a command; words without a fault have one
 abbrev pub act_at : Option Command → Outside → Volume → Run

@@ -1,5 +1,5 @@
 //! Which action carries a command out.
-ghost use Rattle.std.specs.Prelude.{◌≡◌, true, false};
+ghost use Rattle.std.specs.Prelude.{◌≡◌, Bool, true, false};
 ghost use Rattle.tl_action.specs.Actions.{IsOn};
 ghost use Rattle.tl_tool.specs.Acts.{Acts, ActsAlone, ActsOver};
 ghost use Rattle.tl_tool.specs.Commands.{built_actions, reads_repositories};
@@ -28,15 +28,15 @@ fn reads_repositories(action: &Action) -> bool
 }
 
 // Carries an action out that reads neither repositories nor the input.
-fn act_alone<H: Host>(alloc: Global, action: Action, session: Session<H>) -> Acted<H>
+fn act_alone<H: Host>(alloc: Global, action: Action, formats: bool, session: Session<H>) -> Acted<H>
     requires on { IsOn built_actions action }
     requires alone { reads_repositories action ≡ false }
-    ensures { ActsAlone H.tells H.seen action session result.ending result.state }
+    ensures { ActsAlone H.tells H.seen action formats session result.ending result.state }
 {
     match action {
         Action::DumpTlpdb { local: _ } => dump_tlpdb(alloc, session),
         Action::Check { what } => check(alloc, what, session),
-        Action::Remove { names, force } => remove(alloc, names.as_slice(), force, session),
+        Action::Remove { names, force } => remove(alloc, names.as_slice(), force, formats, session),
         Action::Backup { names, all } => backup(alloc, names.as_slice(), all, session),
         Action::Setting {
             option: name,
@@ -59,8 +59,8 @@ fn act_over<H: Host, S: Shelf>(
 ) -> Acted<H>
     requires on { IsOn built_actions action }
     requires over { reads_repositories action ≡ true }
-    ensures { ActsOver S.tells H.tells H.seen action repositories.now session (S.seen shelf.old) (S.seen shelf.new)
-        result.ending result.state }
+    ensures { (formats : Bool) → ActsOver S.tells H.tells H.seen action repositories.now formats session
+        (S.seen shelf.old) (S.seen shelf.new) result.ending result.state }
 {
     match action {
         Action::Info { name } => info(alloc, name, repositories, shelf, session),
@@ -84,11 +84,12 @@ pub(crate) fn act<H: Host, S: Shelf>(
     let Command {
         action,
         repositories,
+        formats,
         ..
     } = command;
     if reads_repositories(&action) {
         act_over(alloc, action, repositories.as_slice(), shelf, session)
     } else {
-        act_alone(alloc, action, session)
+        act_alone(alloc, action, formats, session)
     }
 }

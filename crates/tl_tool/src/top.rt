@@ -38,7 +38,6 @@ fn read_command(alloc: Global, words: &[Vec<u8>]) -> Result<Command, WordsError>
 {
     let command = read_words(alloc, &BUILT, words)?;
     refuse_option(OptionName::Usermode, words)?;
-    refuse_option(OptionName::Formats, words)?;
     Ok(command)
 }
 

@@ -30,7 +30,7 @@ const LISTED: (&str, &[u8]) = (
     b"% ls-R -- filename database for kpathsea; do not change this line.\n\n./:\ntex\n\n./tex:\na.sty\n\n",
 );
 
-const ROWS: [Row; 9] = [
+const ROWS: [Row; 10] = [
     Row {
         files: &[],
         words: &["T", "dump-tlpdb", "-local"],
@@ -53,8 +53,13 @@ const ROWS: [Row; 9] = [
     },
     Row {
         files: &[INSTALLED, ("a.sty", b"")],
-        words: &["T", "remove", "a"],
+        words: &["T", "remove", "-formats", "a"],
         said: "step 1/1 remove a done\n",
+    },
+    Row {
+        files: &[INSTALLED, ("a.sty", b"")],
+        words: &["T", "backup", "-all"],
+        said: "step 1/1 backup a r7 done\n",
     },
     Row {
         files: &[],

@@ -5,6 +5,8 @@ use Rattle.tl_model.specs.Volume.{Volume}
 use Rattle.tl_entry.specs.declared.object.Object.{Object}
 use Rattle.tl_tree.specs.declared.change.Part.{Part}
 use Rattle.tl_backup.specs.Asked.{Answers, tree_in}
+use Rattle.tl_tree.specs.Changes.{entries_after}
+use Rattle.tl_backup.proofs.Changing.{added_entries}
 use Rattle.tl_backup.specs.Autobackup.{autobackup}
 use Rattle.tl_command.specs.Endings.{no_devices}
 use Rattle.tl_command.specs.Labels.{step_label}
@@ -47,6 +49,16 @@ returns-in-Ok-autobackup-clause-made g c =
     λ t. ap (λ (names : List _). autobackup names old.db (tree_in old)) (sym (c.deref.ensures.value ∙ c.in-Ok.ensures)) ∙ c.in-Ok-autobackup.ensures.parts t in
     ok_map (λ next. Steps tells (parts_of planned ++ added) (step_label number count (changes_text planned)) mid next) (λ next. Continues tells seen (plan_step count (number, planned)) old next)
     (λ next steps. added_continues tells seen count number planned old mid c.autobackup.ensures.asked c.stands.ensures.tree added found c.in-Ok-autobackup.ensures.form.each next steps)
+    c.make_adding.result c.make_adding.ensures.made
+
+pub returns-in-Ok-autobackup-clause-db : goal.returns-in-Ok-autobackup-clause-db
+returns-in-Ok-autobackup-clause-db g c =
+    let parts = parts_of c.args.planned.now in
+    let added = c.in-Ok-autobackup.added.items in
+    let old = c.args.tree in
+    let mid = c.autobackup.new.tree in
+    ok_map (λ next. Steps g.H.Host.tells (parts ++ added) (step_label c.args.number c.args.count (changes_text c.args.planned.now)) mid next) (λ next. next.db ≡ entries_after parts old.db)
+    (λ next steps. steps.db ∙ added_entries parts added mid.db c.in-Ok-autobackup.ensures.form.each ∙ ap (entries_after parts) c.autobackup.ensures.asked.db)
     c.make_adding.result c.make_adding.ensures.made
 
 pub returns-in-Ok-autobackup-clause-acted : goal.returns-in-Ok-autobackup-clause-acted

@@ -19,7 +19,7 @@ returns-in-Ok g c =
     let tree = c.args.tree in
     let ending = c.make_steps.result.ending in
     let state = c.make_steps.result.state in
-    subst (λ (plan : Result (List (List Planned)) PlanError). Performs g.H.Host.tells g.H.Host.seen (λ t. plan_run plan tree.db t) 0 tree.seen no_devices no_devices ending state)
+    subst (λ (plan : Result (List (List Planned)) PlanError). Performs g.H.Host.tells g.H.Host.seen (λ t. plan_run c.args.formats plan tree.db t) 0 tree.seen no_devices no_devices ending state)
     (ap Ok c.deref.ensures.value ∙ sym c.in-Ok.ensures.steps) c.make_steps.ensures
 
 pub returns-in-Err-Protected : goal.returns-in-Err-Protected
@@ -28,7 +28,7 @@ returns-in-Err-Protected g c =
     let ending = c.refuse.result.ending in
     let state = c.refuse.result.state in
     let fault = Protected c.in-Err-Protected.name in
-    subst (λ (plan : Result (List (List Planned)) PlanError). Performs g.H.Host.tells g.H.Host.seen (λ t. plan_run plan tree.db t) 0 tree.seen no_devices no_devices ending state)
+    subst (λ (plan : Result (List (List Planned)) PlanError). Performs g.H.Host.tells g.H.Host.seen (λ t. plan_run c.args.formats plan tree.db t) 0 tree.seen no_devices no_devices ending state)
     (sym (refused_by tree.db c.args.names.now c.args.force fault (rw c.in-Err-Protected.field-0-is at c.in-Err-Protected.ensures.fault)))
     (performs_of _ _ _ _ _ _ _ c.of_tree.ensures c.refuse.ensures.performs)
 
@@ -38,7 +38,7 @@ returns-in-Err-NotInstalled g c =
     let ending = c.refuse-in-Err-NotInstalled.result.ending in
     let state = c.refuse-in-Err-NotInstalled.result.state in
     let fault = NotInstalled c.in-Err-NotInstalled.name in
-    subst (λ (plan : Result (List (List Planned)) PlanError). Performs g.H.Host.tells g.H.Host.seen (λ t. plan_run plan tree.db t) 0 tree.seen no_devices no_devices ending state)
+    subst (λ (plan : Result (List (List Planned)) PlanError). Performs g.H.Host.tells g.H.Host.seen (λ t. plan_run c.args.formats plan tree.db t) 0 tree.seen no_devices no_devices ending state)
     (sym (refused_by tree.db c.args.names.now c.args.force fault (rw c.in-Err-NotInstalled.field-0-is at c.in-Err-NotInstalled.ensures.fault)))
     (performs_of _ _ _ _ _ _ _ c.of_tree-in-Err-NotInstalled.ensures c.refuse-in-Err-NotInstalled.ensures.performs)
 
@@ -48,7 +48,7 @@ returns-in-Err-Needed g c =
     let ending = c.refuse-in-Err-Needed.result.ending in
     let state = c.refuse-in-Err-Needed.result.state in
     let fault = Needed c.in-Err-Needed.name c.in-Err-Needed.by in
-    subst (λ (plan : Result (List (List Planned)) PlanError). Performs g.H.Host.tells g.H.Host.seen (λ t. plan_run plan tree.db t) 0 tree.seen no_devices no_devices ending state)
+    subst (λ (plan : Result (List (List Planned)) PlanError). Performs g.H.Host.tells g.H.Host.seen (λ t. plan_run c.args.formats plan tree.db t) 0 tree.seen no_devices no_devices ending state)
     (sym (refused_by tree.db c.args.names.now c.args.force fault (rw c.in-Err-Needed.field-0-is at c.in-Err-Needed.ensures.fault)))
     (performs_of _ _ _ _ _ _ _ c.of_tree-in-Err-Needed.ensures c.refuse-in-Err-Needed.ensures.performs)
 

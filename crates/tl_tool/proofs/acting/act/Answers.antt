@@ -14,8 +14,8 @@ returns-then-reads_repositories g c =
     let new = g.S.Shelf.seen c.act_over.new.shelf in
     acts-over shelf host g.H.Host.seen c.args.command c.args.session old new c.act_over.result.ending c.act_over.result.state
     (sym c.reads_repositories.ensures ∙ c.if-reads_repositories.true)
-    (subst (λ (repositories : List Repository). Performs (shelf && host) g.H.Host.seen (action_run c.args.command.action repositories (over_shelf old)) 0 c.args.session (shelf_faults old) (shelf_faults new)
-    c.act_over.result.ending c.act_over.result.state) c.as_slice.ensures c.act_over.ensures)
+    (subst (λ (repositories : List Repository). Performs (shelf && host) g.H.Host.seen (action_run c.args.command.action repositories c.args.command.formats (over_shelf old)) 0 c.args.session (shelf_faults old) (shelf_faults new)
+    c.act_over.result.ending c.act_over.result.state) c.as_slice.ensures (c.act_over.ensures c.args.command.formats))
 
 pub returns : goal.returns
 returns g c =
