@@ -132,6 +132,12 @@ class Disk:
     def touch(self, name):
         self.names.setdefault(folder_of(name), set()).add(name)
 
+    def went(self, name):
+        """A file or an empty folder went: once its going is durable, so is that of what stood below it."""
+        self.files.discard(name)
+        for folder in [held for held in self.names if held == name or held.startswith(name + "/")]:
+            del self.names[folder]
+
     def open_things(self, but=()):
         names = {name for held in self.names.values() for name in held}
         return sorted((self.files | names) - set(but))
@@ -183,7 +189,7 @@ class Run:
             if kind in ("create", "write"):
                 self.disk.files.add(name)
             elif kind == "gone":
-                self.disk.files.discard(name)
+                self.disk.went(name)
 
     def over(self, events, ended):
         for event in events:
