@@ -1,0 +1,3 @@
+pub mod ThenLemmas
+pub mod FileLemmas
+pub mod PartLemmas
