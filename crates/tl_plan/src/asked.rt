@@ -36,7 +36,8 @@ fn is_collection(category: Category) -> bool
     matches!(category, Category::Collection)
 }
 
-fn name_set(alloc: Global, names: &[Name]) -> Result<IndexSet<Name>, AllocError>
+/// Some names, each once.
+pub fn name_set(alloc: Global, names: &[Name]) -> Result<IndexSet<Name>, AllocError>
     ensures { IfOk result (λ set. set.keys ≡ insert_all bytes_eq [] names.now) }
 {
     let mut set = IndexSet::new(alloc);
@@ -131,8 +132,8 @@ fn has_parts(alloc: Global, entry: &Object) -> Result<bool, AllocError>
     )
 }
 
-// Adds the binary parts of an entry.
-fn add_parts(
+/// Adds the binary parts of an entry.
+pub fn add_parts(
     alloc: Global,
     parts: &mut IndexSet<Name>,
     entry: &Object,

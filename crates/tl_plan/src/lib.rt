@@ -8,6 +8,8 @@ mod platforms;
 mod removal;
 mod steps;
 
+pub use asked::{add_parts, is_protected, name_set};
 pub use error::PlanError;
 pub use planned::{Planned, PlannedStep};
+pub use platforms::tree_platforms;
 pub use removal::plan_remove;
