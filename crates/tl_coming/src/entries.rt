@@ -70,7 +70,7 @@ fn refuse_reserved_of(alloc: Global, entry: &Object) -> Result<(), ComingError>
     Ok(())
 }
 
-/// Refuses the first entry's least path that is reserved.
+/// Refuses the first entry's least path that is reserved, as `Reserved`.
 pub fn refuse_reserved(alloc: Global, coming: &[&Object]) -> Result<(), ComingError>
     ensures ok { OnOk result (first_of reserved_path (map (λ entry. entry.now) coming.now) ≡ None) }
     ensures fault { IfErr result (IsWantedFault (first_of reserved_path (map (λ entry. entry.now) coming.now))) }

@@ -12,6 +12,9 @@ mod part;
 mod planning;
 mod refused;
 
+pub use entries::refuse_reserved;
 pub use error::ComingError;
+pub use occupied::refuse_in_tree;
+pub use owned::refuse_owned;
 pub use part::{PlanPart, PlanStep, part_entry};
 pub use planning::make_plan;

@@ -150,8 +150,8 @@ fn refuse_standing<H: Host>(
     refuse_occupied(alloc, &PathSet::of(names), coming)
 }
 
-/// Refuses a tree of too many names, then the first entry's least path that touches one which no installed package has as a file.
-/// Where nothing comes, nothing is refused. It walks once over the names of the tree.
+/// Refuses a tree of too many names as `TooLarge` of `Files`, then as `Occupied` the first entry's least path that touches a name which
+/// no installed package has as a file. Where nothing comes, nothing is refused. It walks once over the names of the tree.
 pub fn refuse_in_tree<H: Host>(
     alloc: Global,
     tree: &mut Tree<H>,

@@ -174,7 +174,8 @@ fn refuse_owned_of(
     Ok(())
 }
 
-/// Refuses the first entry's least path that touches a file of an installed package that has none of these names.
+/// Refuses the first entry's least path that touches a file of an installed package that has none of these names: `Owned` with the first
+/// such package. It takes time in proportion to n log n, for n paths that come and files of installed packages.
 pub fn refuse_owned(
     alloc: Global,
     db: &Db,

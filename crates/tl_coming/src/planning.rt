@@ -69,9 +69,10 @@ fn refuse_plan<H: Host>(
     refuse_coming(alloc, tree, &names, &entries)
 }
 
-/// The steps of a plan over a tree, each a change of the entries that those before it leave, unless the plan is refused: `BadExecute`, `Reserved`, `Clash`, `Owned`, `TooLarge` of `Files`, `Occupied`,
-/// in this order, each at the first package in the order of the plan and there at its first execute or its least path. It takes time in
-/// proportion to n log n, for n paths that come, files of installed packages and names of the tree.
+/// The steps of a plan over a tree, each a change of the entries that those before it leave, unless the plan is refused: `BadExecute`,
+/// `Reserved`, `Clash`, `Owned`, `TooLarge` of `Files`, `Occupied`, in this order, each at the first package in the order of the plan
+/// and there at its first execute or its least path. It takes time in proportion to n log n, for n paths that come, files of installed
+/// packages and names of the tree.
 pub fn make_plan<H: Host>(
     alloc: Global,
     tree: &mut Tree<H>,
