@@ -9,13 +9,13 @@ use Rattle.tl_entry.specs.Rising.{has_key, is_rising, is_rising_after}
 use Rattle.tl_entry.specs.FilePaths.{rising_of}
 use Rattle.tl_entry.proofs.SetLemmas.{none_again, rising-rising_of}
 use Rattle.tl_entry.specs.declared.object.Object.{Object}
+use Rattle.tl_path.specs.declared.kinds.Category.{Category}
+use Rattle.tl_path.specs.declared.kinds.Category.TheVariants.{Package, TLCore, ConTeXt, Collection, Scheme}
 use Rattle.tl_db.specs.Entries.{entry_of}
 use Rattle.tl_db.specs.declared.repo.Repo.{Repo}
 use Rattle.tl_pin.specs.declared.line.PinLine.{PinLine}
 use Rattle.tl_pin.specs.Candidates.{candidate_of, view_entry, entry_under, offer, main_pin, has_glob_for}
 use Rattle.tl_depend.specs.Order.{entry_rank, same_rank, category_rank}
-use Rattle.tl_depend.specs.declared.ordering.Rank.{Rank}
-use Rattle.tl_depend.specs.declared.ordering.Rank.TheVariants as rank
 use Rattle.tl_tree.specs.Staged.{has_name}
 use Rattle.tl_tree.proofs.Distinct.{AreOnce, IsPart, has_either, once-nil, once-cons, once-append, part-append, part-nil, part-same}
 use Rattle.tl_coming.specs.Made.{IsGiven}
@@ -158,40 +158,62 @@ filtered_passes q (x ∷ xs) name has = by (q x) refl has (filtered_passes q xs 
     by true is has rest = at rest is (cases_Bool (same_name name x)) has
     by false is has rest = rest has
 
+-- no entry has the ranks of both categories
+abbrev AreApart : Category → Category → Type 0
+AreApart one other = (o : Option Object) → same_rank (entry_rank o) (category_rank one) ≡ true → same_rank (entry_rank o) (category_rank other) ≡ false
+
 -- names of two ranks have none in common
-ranks_apart : (entry : Name → Option Object) (one other : Rank) (names : List Name) → ((r : Rank) → same_rank r one ≡ true → same_rank r other ≡ false)
+ranks_apart : (entry : Name → Option Object) (one other : Category) (names : List Name) → AreApart one other
     → (name : Name) → has_name name (ranked entry one names) ≡ true → has_name name (ranked entry other names) ≡ false
 ranks_apart entry one other names apart name has = false_from_ne_true _ (λ there. true≢false
-    (sym (filtered_passes (λ n. same_rank (entry_rank (entry n)) other) names name there)
-    ∙ apart (entry_rank (entry name)) (filtered_passes (λ n. same_rank (entry_rank (entry n)) one) names name has)))
+    (sym (filtered_passes (λ n. same_rank (entry_rank (entry n)) (category_rank other)) names name there)
+    ∙ apart (entry name) (filtered_passes (λ n. same_rank (entry_rank (entry n)) (category_rank one)) names name has)))
 
-member_collection : (r : Rank) → same_rank r rank.Member ≡ true → same_rank r rank.Collection ≡ false
-member_collection rank.Member is = refl
-member_collection rank.Collection is = absurd (true≢false (sym is))
-member_collection rank.Scheme is = refl
+member_collection : AreApart Package Collection
+member_collection None is = refl
+member_collection (Some e) is = by e.category is
+  where
+    by : (c : Category) → same_rank (category_rank c) (category_rank Package) ≡ true → same_rank (category_rank c) (category_rank Collection) ≡ false
+    by Package is = refl
+    by TLCore is = refl
+    by ConTeXt is = refl
+    by Collection is = absurd (true≢false (sym is))
+    by Scheme is = refl
 
-member_scheme : (r : Rank) → same_rank r rank.Member ≡ true → same_rank r rank.Scheme ≡ false
-member_scheme rank.Member is = refl
-member_scheme rank.Collection is = refl
-member_scheme rank.Scheme is = absurd (true≢false (sym is))
+member_scheme : AreApart Package Scheme
+member_scheme None is = refl
+member_scheme (Some e) is = by e.category is
+  where
+    by : (c : Category) → same_rank (category_rank c) (category_rank Package) ≡ true → same_rank (category_rank c) (category_rank Scheme) ≡ false
+    by Package is = refl
+    by TLCore is = refl
+    by ConTeXt is = refl
+    by Collection is = refl
+    by Scheme is = absurd (true≢false (sym is))
 
-collection_scheme : (r : Rank) → same_rank r rank.Collection ≡ true → same_rank r rank.Scheme ≡ false
-collection_scheme rank.Member is = refl
-collection_scheme rank.Collection is = refl
-collection_scheme rank.Scheme is = absurd (true≢false (sym is))
+collection_scheme : AreApart Collection Scheme
+collection_scheme None is = refl
+collection_scheme (Some e) is = by e.category is
+  where
+    by : (c : Category) → same_rank (category_rank c) (category_rank Collection) ≡ true → same_rank (category_rank c) (category_rank Scheme) ≡ false
+    by Package is = refl
+    by TLCore is = refl
+    by ConTeXt is = refl
+    by Collection is = refl
+    by Scheme is = absurd (true≢false (sym is))
 
 -- names in the order in which they are installed come once
 pub order_once : (entry : Name → Option Object) (names : List Name) → AreOnce names → AreOnce (order_by entry names)
 order_once entry names once =
-    let members : List Name = ranked entry rank.Member names in
-    let collections : List Name = ranked entry rank.Collection names in
-    let schemes : List Name = ranked entry rank.Scheme names in
-    let each : (r : Rank) → AreOnce (ranked entry r names) = λ r. (filtered_part (λ n. same_rank (entry_rank (entry n)) r) names).once once in
-    once-append members (collections ++ schemes) (each rank.Member)
-    (once-append collections schemes (each rank.Collection) (each rank.Scheme) (ranks_apart entry rank.Collection rank.Scheme names collection_scheme))
+    let members : List Name = ranked entry Package names in
+    let collections : List Name = ranked entry Collection names in
+    let schemes : List Name = ranked entry Scheme names in
+    let each : (c : Category) → AreOnce (ranked entry c names) = λ c. (filtered_part (λ n. same_rank (entry_rank (entry n)) (category_rank c)) names).once once in
+    once-append members (collections ++ schemes) (each Package)
+    (once-append collections schemes (each Collection) (each Scheme) (ranks_apart entry Collection Scheme names collection_scheme))
     (λ name has. false_from_ne_true _ (λ there. has_either name collections schemes
-    (λ here. true≢false (sym here ∙ ranks_apart entry rank.Member rank.Collection names member_collection name has))
-    (λ here. true≢false (sym here ∙ ranks_apart entry rank.Member rank.Scheme names member_scheme name has)) there))
+    (λ here. true≢false (sym here ∙ ranks_apart entry Package Collection names member_collection name has))
+    (λ here. true≢false (sym here ∙ ranks_apart entry Package Scheme names member_scheme name has)) there))
 
 -- the parts of a plan for names in order are of no two of one package
 pub arrivals_once : (pins : List PinLine) (repos : List Repo) (replaced : List Object) (entry : Name → Option Object) (names : List Name)

@@ -1,6 +1,7 @@
 -- Which packages come where some are asked to.
 use Rattle.std.specs.Prelude.{◌≡◌, ℕ, ◌&&◌, ◌||◌, not, Bool, true, if◌then◌else◌, List, [], ◌++◌, filter, length, Option, Some, None, is_some}
 use Rattle.std.specs.List.{flat_map}
+use Rattle.tl_path.specs.declared.kinds.Category.{Category}
 use Rattle.tl_path.specs.declared.kinds.Category.TheVariants.{Package, Collection, Scheme}
 use Rattle.tl_entry.specs.FilePaths.{rising_of}
 use Rattle.tl_entry.specs.declared.object.Object.{Object}
@@ -11,18 +12,17 @@ use Rattle.tl_pin.specs.Candidates.{candidate_of, view_entry}
 use Rattle.tl_depend.specs.Names.{named_of}
 use Rattle.tl_depend.specs.Needed.{tree_platforms}
 use Rattle.tl_depend.specs.Order.{entry_rank, same_rank, category_rank}
-use Rattle.tl_depend.specs.declared.ordering.Rank.{Rank}
 use Rattle.tl_bring.specs.Reached.{reached_by, all_named}
 use Rattle.tl_plan.specs.Removal.{is_protected, is_among, binary_parts}
 use Rattle.tl_bring.specs.declared.coming.InstallAsk.{InstallAsk}
 
--- the names of a rank among some, by what gives the entry of a name
-abbrev pub ranked : (List ℕ → Option Object) → Rank → List (List ℕ) → List (List ℕ)
-ranked entry rank names = filter (λ name. same_rank (entry_rank (entry name)) rank) names
+-- the names among some that have the rank of a category, by what gives the entry of a name
+abbrev pub ranked : (List ℕ → Option Object) → Category → List (List ℕ) → List (List ℕ)
+ranked entry category names = filter (λ name. same_rank (entry_rank (entry name)) (category_rank category)) names
 
 -- names that stand in the order of their bytes, in the order in which they are installed, by what gives the entry of a name
 abbrev pub order_by : (List ℕ → Option Object) → List (List ℕ) → List (List ℕ)
-order_by entry names = ranked entry (category_rank Package) names ++ (ranked entry (category_rank Collection) names ++ ranked entry (category_rank Scheme) names)
+order_by entry names = ranked entry Package names ++ (ranked entry Collection names ++ ranked entry Scheme names)
 
 -- all entries that repositories and a tree have
 abbrev pub known_entries : List Repo → List Object → List Object
