@@ -1,5 +1,5 @@
 -- The parts by which packages come: each from a repository that has it, and no two of one package.
-use Rattle.std.proofs.Common.{◌≡◌, ◌⊎◌, ℕ, zero, suc, ◌+◌, Bool, true, false, cond, not, ◌||◌, ◌&&◌, List, [], ◌∷◌, ◌++◌, map, Option, Some, None, refl, sym, ap, subst, ◌∙◌, arith, inl, inr}
+use Rattle.std.proofs.Common.{◌≡◌, ◌⊎◌, ℕ, zero, suc, ◌+◌, Bool, true, false, cond, not, ◌||◌, ◌&&◌, List, [], ◌∷◌, ◌++◌, map, length, Option, Some, None, refl, sym, ap, subst, ◌∙◌, arith, inl, inr}
 use Rattle.std.specs.Prelude.{filter, is_some, option_map, slice_get}
 use Rattle.std.specs.List.{list_any, filter_map, cons_option, AllByRecursion}
 use Rattle.std.specs.Str.{bytes_eq}
@@ -15,6 +15,7 @@ use Rattle.tl_db.specs.Entries.{entry_of}
 use Rattle.tl_db.specs.declared.repo.Repo.{Repo}
 use Rattle.tl_pin.specs.declared.line.PinLine.{PinLine}
 use Rattle.tl_pin.specs.Candidates.{candidate_of, view_entry, entry_under, offer, main_pin, has_glob_for}
+use Rattle.tl_depend.specs.Needed.{tree_platforms}
 use Rattle.tl_depend.specs.Order.{entry_rank, same_rank, category_rank}
 use Rattle.tl_tree.specs.Staged.{has_name}
 use Rattle.tl_tree.proofs.Distinct.{AreOnce, IsPart, has_either, once-nil, once-cons, once-append, part-append, part-nil, part-same}
@@ -24,7 +25,8 @@ use Rattle.tl_coming.specs.declared.part.PlanPart.{PlanPart}
 use Rattle.tl_coming.specs.declared.part.PlanPart.TheVariants.{Install, Update}
 use Rattle.tl_coming.proofs.OnceLaws.{same_among}
 use Rattle.tl_touch.proofs.Touching.{among_either}
-use Rattle.tl_bring.specs.Coming.{ranked, order_by, install_names}
+use Rattle.tl_bring.specs.Coming.{ranked, order_by, known_entries, comes, names_again, looked_at, install_names}
+use Rattle.tl_bring.specs.Reached.{all_named}
 use Rattle.tl_bring.specs.Installation.{arrival_from, arrival, arrivals, install_plan}
 use Rattle.tl_bring.specs.declared.coming.InstallAsk.{InstallAsk}
 
@@ -122,7 +124,7 @@ names_part pins repos replaced (name ∷ names) = by (candidate_of pins repos na
 
 -- ---- names in order
 
-same_key : (name : Name) (all : List Name) → has_key (λ n. n) name all ≡ has_name name all
+pub same_key : (name : Name) (all : List Name) → has_key (λ n. n) name all ≡ has_name name all
 same_key name all = sym (among_either name all) ∙ same_among name all
 
 tail_rising : (first : Name) (others : List Name) → is_rising_after (λ n. n) first others ≡ true → is_rising (λ n. n) others ≡ true
@@ -138,7 +140,7 @@ pub rising_once : (names : List Name) → is_rising (λ n. n) names ≡ true →
 rising_once [] up = once-nil
 rising_once (name ∷ names) up = once-cons name names (sym (same_key name names) ∙ none_again name names up) (rising_once names (tail_rising name names up))
 
-filtered_part : (q : Name → Bool) (xs : List Name) → IsPart (filter q xs) xs
+pub filtered_part : (q : Name → Bool) (xs : List Name) → IsPart (filter q xs) xs
 filtered_part q [] = part-nil []
 filtered_part q (x ∷ xs) = by (q x) (filtered_part q xs)
   where
@@ -227,4 +229,6 @@ install_given pins repos db ask = all_given pins repos [] (install_names pins re
 
 pub install_once : (pins : List PinLine) (repos : List Repo) (db : List Object) (ask : InstallAsk) → AreOnce (map part_name (install_plan pins repos db ask))
 unfolding install_names
-install_once pins repos db ask = arrivals_once pins repos [] (view_entry pins repos db) _
+install_once pins repos db ask = arrivals_once pins repos [] (view_entry pins repos db)
+    (filter (comes pins repos db (names_again ask))
+    (looked_at ask (view_entry pins repos db) (tree_platforms db) (length (all_named (tree_platforms db) (known_entries repos db)))))

@@ -24,7 +24,7 @@ use Rattle.tl_depend.specs.Needed.{tree_platforms}
 use Rattle.tl_plan.specs.Plans.{install_order}
 use Rattle.tl_bring.specs.Reached.{reached_by, all_named}
 use Rattle.tl_plan.specs.Removal.{is_among}
-use Rattle.tl_bring.specs.Coming.{order_by, known_entries, may_come, comes, names_again, looked_at, IsEnough, install_names}
+use Rattle.tl_bring.specs.Coming.{order_by, known_entries, may_come, comes, names_again, parts_in, looked_at, IsEnough, install_names}
 use Rattle.tl_bring.specs.declared.coming.InstallAsk.{InstallAsk}
 use Rattle.tl_plan.proofs.SetLaws.{among_either, among_all, all_onto}
 use Rattle.tl_plan.proofs.OrderLaws.{order_is}
@@ -170,3 +170,39 @@ names_are pins repos db view ask looked again ordered at looks same is =
 -- names that are gathered after others
 pub gathered_onto : (keys some more : Texts) → insert_all bytes_eq keys (some ++ more) ≡ insert_all bytes_eq (insert_all bytes_eq keys some) more
 gathered_onto keys some more = all_onto keys some more
+
+-- the names of a walk are those that are looked at, whichever number of depends is enough
+abbrev pub Looks : InstallAsk → List Object → Texts → Texts → Type 0
+Looks ask view platforms keys =
+    (count : ℕ) → IsEnough view platforms count → (name : List ℕ) → is_among name keys ≡ is_among name (looked_at ask (λ n. entry_of n view) platforms count)
+
+module _ (ask : InstallAsk) (view : List Object) (platforms : Texts) where
+  abbrev names : Texts
+  names = ask.names.items
+
+  abbrev parts : Texts
+  parts = parts_in (λ n. entry_of n view) platforms names
+
+  abbrev reached : ℕ → Texts
+  reached count = reached_by count (λ n. named_of platforms (entry_of n view)) names
+
+  abbrev chosen : Bool → Bool → ℕ → Texts
+  chosen with_parts with_depends count = cond (not with_parts) names (cond (not with_depends) (names ++ parts) (reached count))
+
+  -- without parts
+  pub alone_looked : (keys : Texts) → ask.parts ≡ false → keys ≡ insert_all bytes_eq [] names → Looks ask view platforms keys
+  alone_looked keys off is count enough name =
+      ap (is_among name) is ∙ among_all name [] names ∙ sym (ap (λ t. is_among name (chosen t ask.depends count)) off)
+
+  -- without depends
+  pub parts_looked : (keys : Texts) → ask.parts ≡ true → ask.depends ≡ false → keys ≡ insert_all bytes_eq (insert_all bytes_eq [] names) parts → Looks ask view platforms keys
+  parts_looked keys on off is count enough name =
+      ap (is_among name) is ∙ among_all name (insert_all bytes_eq [] names) parts ∙ ap (λ t. t || is_among name parts) (among_all name [] names)
+      ∙ sym (list_any-append (bytes_eq name) names parts)
+      ∙ sym (ap (λ t. is_among name (chosen t ask.depends count)) on ∙ ap (λ t. is_among name (chosen true t count)) off)
+
+  -- with both
+  pub reach_looked : (keys : Texts) → ask.parts ≡ true → ask.depends ≡ true → ((name : List ℕ) → IsTrue (is_among name keys) ↔ IsReached view platforms names name) → Looks ask view platforms keys
+  reach_looked keys on all means count enough name =
+      reached_at view platforms count enough names name (is_among name keys) (means name)
+      ∙ sym (ap (λ t. is_among name (chosen t ask.depends count)) on ∙ ap (λ t. is_among name (chosen true t count)) all)

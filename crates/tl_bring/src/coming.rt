@@ -46,9 +46,9 @@ fn add_parts_of(
     }
 }
 
-// Some names and their binary parts.
+/// Some names and the binary parts of their entries in the view, each once.
 #[tactic(auto, using(crate::proofs::InstallLaws::gathered_onto))]
-fn with_parts(
+pub fn with_parts(
     alloc: Global,
     view: &Db,
     names: &[Name],
@@ -95,22 +95,23 @@ fn names_again(alloc: Global, ask: &InstallAsk) -> Result<IndexSet<Name>, AllocE
     }
 }
 
-fn is_installed(db: &Db, name: &Name) -> bool
+/// Whether a package is installed.
+pub fn is_installed(db: &Db, name: &Name) -> bool
     ensures { result ≡ is_some (entry_of name.now db.now) }
 {
     db.get(name).is_some()
 }
 
-// Whether a repository gives a package.
-fn is_given(pins: &Pins, repos: &[Repo], name: &Name) -> bool
+/// Whether a repository gives a package.
+pub fn is_given(pins: &Pins, repos: &[Repo], name: &Name) -> bool
     requires { length repos.now ≤ 16 }
     ensures { result ≡ is_some (candidate_of pins.now repos.now name.now) }
 {
     candidate(pins, repos, name).is_some()
 }
 
-// Whether a package may come that isn't installed.
-fn may_come(pins: &Pins, repos: &[Repo], db: &Db, name: &Name) -> bool
+/// Whether a package may come that isn't installed: the tree doesn't keep its name for itself, and a repository gives it.
+pub fn may_come(pins: &Pins, repos: &[Repo], db: &Db, name: &Name) -> bool
     requires { length repos.now ≤ 16 }
     ensures { result ≡ may_come pins.now repos.now db.now name.now }
 {

@@ -5,5 +5,6 @@ mod arrivals;
 mod coming;
 mod installing;
 
-pub use coming::InstallAsk;
+pub use arrivals::{push_arrivals, refuse_protected};
+pub use coming::{InstallAsk, is_given, is_installed, may_come, with_parts};
 pub use installing::plan_install;

@@ -11,11 +11,11 @@ use Rattle.tl_bring.specs.Installation.{install_plan}
 use Rattle.tl_bring.proofs.ArrivalLaws.{install_given, install_once}
 use Rattle.tl_bring.proofs.installing.install_steps.Goals as goal
 
-pub make_plan-requires-named : goal.make_plan-requires-named
-make_plan-requires-named g c = subst (λ (plan : List PlanPart). AreOnce (map part_name plan)) (sym c.in_ok-plan.ensures) (install_once c.args.pins.now c.args.repos.now c.db.result.now c.args.ask.now)
+pub make_plan-requires-clause-named : goal.make_plan-requires-clause-named
+make_plan-requires-clause-named g c = subst (λ (plan : List PlanPart). AreOnce (map part_name plan)) (sym c.in_ok-plan.ensures) (install_once c.args.pins.now c.args.repos.now c.db.result.now c.args.ask.now)
 
-pub make_plan-requires-given : goal.make_plan-requires-given
-make_plan-requires-given g c = subst (λ (plan : List PlanPart). AllByRecursion (IsGiven c.args.repos.now) plan) (sym c.in_ok-plan.ensures) (install_given c.args.pins.now c.args.repos.now c.db.result.now c.args.ask.now)
+pub make_plan-requires-clause-given : goal.make_plan-requires-clause-given
+make_plan-requires-clause-given g c = subst (λ (plan : List PlanPart). AllByRecursion (IsGiven c.args.repos.now) plan) (sym c.in_ok-plan.ensures) (install_given c.args.pins.now c.args.repos.now c.db.result.now c.args.ask.now)
 
 pub returns-clause-plan : goal.returns-clause-plan
 returns-clause-plan g c t =

@@ -21,7 +21,7 @@ returns-in-Ok-clause-plan g c t =
 
 pub returns-in-Err-clause-plan : goal.returns-in-Err-clause-plan
 returns-in-Err-clause-plan g c t =
-    wanted_answers (λ steps. steps.items) (install_fault c.args.pins.now c.args.repos.now c.args.ask.now.names.items) _ _ c.in-Err.fault
+    wanted_answers _ (install_fault c.args.pins.now c.args.repos.now c.args.ask.now.names.items) _ _ c.in-Err.fault
     (subst (λ (names : List (List _)). IsWantedFault (install_fault c.args.pins.now c.args.repos.now names) c.in-Err.fault) c.deref.ensures.value c.in-Err.ensures.fault)
 
 pub returns-in-Err-clause-cause : goal.returns-in-Err-clause-cause
