@@ -1,10 +1,11 @@
-use Rattle.std.proofs.Common.{◌≡◌, List, Option, ◌∙◌, ap, sym, subst}
+use Rattle.std.proofs.Common.{Vec, Global, ◌≡◌, List, Option, ◌∙◌, ap, sym, subst}
 use Rattle.std.specs.Option.{option_or}
 use Rattle.tl_coming.specs.Asked.{Answers, tree_in, unless_fault}
 use Rattle.tl_coming.specs.Cuts.{plan_cuts}
 use Rattle.tl_coming.specs.Planning.{plan_fault}
 use Rattle.tl_coming.specs.Refused.{IsWantedFault}
 use Rattle.tl_coming.specs.declared.error.ComingError.{ComingError}
+use Rattle.tl_coming.specs.declared.part.PlanPart.{PlanPart}
 use Rattle.tl_coming.proofs.TreeLaws.{wanted_answers, never_host}
 use Rattle.tl_bring.specs.Installation.{install_fault, install_plan}
 use Rattle.tl_bring.proofs.installing.plan_install.Goals as goal
@@ -21,7 +22,7 @@ returns-in-Ok-clause-plan g c t =
 
 pub returns-in-Err-clause-plan : goal.returns-in-Err-clause-plan
 returns-in-Err-clause-plan g c t =
-    wanted_answers _ (install_fault c.args.pins.now c.args.repos.now c.args.ask.now.names.items) _ _ c.in-Err.fault
+    wanted_answers (λ (steps : Vec (List PlanPart) Global). steps.items) (install_fault c.args.pins.now c.args.repos.now c.args.ask.now.names.items) _ _ c.in-Err.fault
     (subst (λ (names : List (List _)). IsWantedFault (install_fault c.args.pins.now c.args.repos.now names) c.in-Err.fault) c.deref.ensures.value c.in-Err.ensures.fault)
 
 pub returns-in-Err-clause-cause : goal.returns-in-Err-clause-cause
