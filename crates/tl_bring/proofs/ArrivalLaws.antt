@@ -1,9 +1,9 @@
 -- The parts by which packages come: each from a repository that has it, and no two of one package.
-use Rattle.std.proofs.Common.{◌≡◌, ◌⊎◌, ℕ, zero, suc, ◌+◌, Bool, true, false, cond, not, ◌||◌, ◌&&◌, List, [], ◌∷◌, ◌++◌, map, length, Option, Some, None, refl, sym, ap, subst, ◌∙◌, arith, inl, inr}
+use Rattle.std.proofs.Common.{◌≡◌, ◌⊎◌, ℕ, suc, ◌+◌, Bool, true, false, cond, ◌||◌, ◌&&◌, List, [], ◌∷◌, ◌++◌, map, length, Option, Some, None, refl, sym, ap, subst, ◌∙◌, arith, inl, inr}
 use Rattle.std.specs.Prelude.{filter, is_some, option_map, slice_get}
-use Rattle.std.specs.List.{list_any, filter_map, cons_option, AllByRecursion}
+use Rattle.std.specs.List.{filter_map, cons_option, AllByRecursion}
 use Rattle.std.specs.Str.{bytes_eq}
-use Rattle.std.proofs.lemmas.Bool.{cases_Bool, true≢false, false_from_ne_true, or_right}
+use Rattle.std.proofs.lemmas.Bool.{cases_Bool, true≢false, false_from_ne_true}
 use Rattle.tl_model.specs.Volume.{Name, same_name, same_name-is}
 use Rattle.tl_entry.specs.Rising.{has_key, is_rising, is_rising_after}
 use Rattle.tl_entry.specs.FilePaths.{rising_of}
@@ -21,13 +21,12 @@ use Rattle.tl_tree.specs.Staged.{has_name}
 use Rattle.tl_tree.proofs.Distinct.{AreOnce, IsPart, has_either, once-nil, once-cons, once-append, part-append, part-nil, part-same}
 use Rattle.tl_coming.specs.Made.{IsGiven}
 use Rattle.tl_coming.specs.Parts.{part_name, entry_at}
-use Rattle.tl_coming.specs.declared.part.PlanPart.{PlanPart}
 use Rattle.tl_coming.specs.declared.part.PlanPart.TheVariants.{Install, Update}
 use Rattle.tl_coming.proofs.OnceLaws.{same_among}
 use Rattle.tl_touch.proofs.Touching.{among_either}
 use Rattle.tl_bring.specs.Coming.{ranked, order_by, known_entries, comes, names_again, looked_at, install_names}
 use Rattle.tl_bring.specs.Reached.{all_named}
-use Rattle.tl_bring.specs.Installation.{arrival_from, arrival, arrivals, install_plan}
+use Rattle.tl_bring.specs.Installation.{arrival_from, arrivals, install_plan}
 use Rattle.tl_bring.specs.declared.coming.InstallAsk.{InstallAsk}
 
 -- ---- what a candidate is

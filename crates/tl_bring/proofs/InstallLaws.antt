@@ -1,7 +1,7 @@
 -- The names of the packages that come.
 use Rattle.std.proofs.Common.{◌≡◌, ◌⊎◌, ◌↔◌, ℕ, ◌+◌, Bool, true, false, cond, not, ◌||◌, ◌&&◌, List, [], ◌∷◌, ◌++◌, length, Option, Some, None, refl, sym, ap, subst, ◌∙◌, inl, inr}
-use Rattle.std.specs.Prelude.{filter, map, is_some, option_map, slice_get, IsTrue, Result, Ok, Err, IfOk}
-use Rattle.std.specs.List.{list_any, flat_map, filter_map, cons_option}
+use Rattle.std.specs.Prelude.{filter, is_some, option_map, slice_get, IsTrue}
+use Rattle.std.specs.List.{flat_map, filter_map, cons_option}
 use Rattle.std.specs.Str.{bytes_eq}
 use Rattle.std.proofs.Math.Path.{fun_ext}
 use Rattle.std.proofs.lemmas.Bool.{cases_Bool, true≢false}
@@ -17,11 +17,10 @@ use Rattle.tl_db.specs.Entries.{entry_of}
 use Rattle.tl_db.specs.declared.repo.Repo.{Repo}
 use Rattle.tl_pin.specs.declared.line.PinLine.{PinLine}
 use Rattle.tl_pin.specs.Candidates.{view_entry, candidate_of, entry_under, entry_or, offer, main_pin, has_glob_for}
-use Rattle.tl_depend.specs.Names.{named_in, named_of}
+use Rattle.tl_depend.specs.Names.{named_of}
 use Rattle.tl_depend.specs.Order.{IsInstallOrder}
 use Rattle.tl_depend.specs.Reach.{IsReached}
 use Rattle.tl_depend.specs.Needed.{tree_platforms}
-use Rattle.tl_plan.specs.Plans.{install_order}
 use Rattle.tl_bring.specs.Reached.{reached_by, all_named}
 use Rattle.tl_plan.specs.Removal.{is_among}
 use Rattle.tl_bring.specs.Coming.{order_by, known_entries, may_come, comes, names_again, parts_in, looked_at, IsEnough, install_names}

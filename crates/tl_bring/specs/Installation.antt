@@ -1,5 +1,5 @@
 -- The plan by which packages are installed, or its first refusal.
-use Rattle.std.specs.Prelude.{ℕ, ◌+◌, not, if◌then◌else◌, List, [], Option, Some, find, option_map, is_some, Result}
+use Rattle.std.specs.Prelude.{ℕ, not, if◌then◌else◌, List, [], Option, find, option_map, is_some, Result}
 use Rattle.std.specs.List.{filter_map}
 use Rattle.std.specs.Option.{option_or}
 use Rattle.tl_model.specs.Volume.{Volume}

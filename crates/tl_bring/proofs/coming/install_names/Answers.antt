@@ -1,12 +1,8 @@
-use Rattle.std.proofs.Common.{◌≡◌, ◌∙◌, ap, sym, subst, List, ℕ, [], map}
-use Rattle.std.specs.Prelude.{filter}
-use Rattle.std.specs.Str.{bytes_eq}
-use Rattle.indexmap.specs.IndexSet.{insert_all}
+use Rattle.std.proofs.Common.{◌≡◌, ◌∙◌, ap, subst, List, ℕ, map}
 use Rattle.tl_db.specs.Entries.{entry_of}
-use Rattle.tl_depend.specs.Needed.{tree_platforms}
 use Rattle.tl_depend.specs.Order.{IsInstallOrder}
 use Rattle.tl_plan.specs.Removal.{is_among}
-use Rattle.tl_bring.specs.Coming.{comes, looked_at, IsEnough, install_names}
+use Rattle.tl_bring.specs.Coming.{looked_at, IsEnough, install_names}
 use Rattle.tl_plan.proofs.SetLaws.{ok_weaker}
 use Rattle.tl_bring.proofs.InstallLaws.{names_are}
 use Rattle.tl_bring.proofs.coming.install_names.Goals as goal

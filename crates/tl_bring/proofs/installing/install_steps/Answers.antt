@@ -1,4 +1,4 @@
-use Rattle.std.proofs.Common.{◌≡◌, List, [], ◌∙◌, ap, sym, subst, map}
+use Rattle.std.proofs.Common.{List, ◌∙◌, ap, sym, subst, map}
 use Rattle.std.specs.List.{AllByRecursion}
 use Rattle.tl_entry.specs.declared.object.Object.{Object}
 use Rattle.tl_tree.proofs.Distinct.{AreOnce}

@@ -1,4 +1,4 @@
-use Rattle.std.proofs.Common.{Vec, Global, ◌≡◌, List, Option, ◌∙◌, ap, sym, subst}
+use Rattle.std.proofs.Common.{Vec, Global, List, Option, ◌∙◌, ap, sym, subst}
 use Rattle.std.specs.Option.{option_or}
 use Rattle.tl_coming.specs.Asked.{Answers, tree_in, unless_fault}
 use Rattle.tl_coming.specs.Cuts.{plan_cuts}
