@@ -1,7 +1,5 @@
-use Rattle.std.proofs.Common.{List, ℕ, map, ap, ◌∙◌}
-use Rattle.std.specs.List.{list_any}
+use Rattle.std.proofs.Common.{map, ap, ◌∙◌}
 use Rattle.tl_journal_text.specs.Stand.{tree_of}
-use Rattle.tl_entry.specs.declared.object.Object.{Object}
 use Rattle.tl_report.specs.Lines.{in_order}
 use Rattle.tl_report.specs.Claims.{claim_by, claims}
 use Rattle.tl_report.proofs.AnyLemmas.{same-in_order}
