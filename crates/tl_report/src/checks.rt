@@ -36,8 +36,9 @@ fn files_text<H: Host>(alloc: Global, tree: &mut Tree<H>) -> Result<Vec<u8>, Rep
     ensures cause { HasCauseOf (λ error. error ≡ Fault) tree.old.seen.faults tree.new.seen.faults result }
 {
     let db = tree.db().copy(alloc)?;
-    let files = unmet(alloc, files_of(alloc, &db)?, tree)?;
-    let lines = missing(alloc, &files, tree)?;
+    let files = files_of(alloc, &db)?;
+    let doubtful = unmet(alloc, files, tree)?;
+    let lines = missing(alloc, &doubtful, tree)?;
     Ok(lines.into_text(alloc)?)
 }
 
