@@ -1,4 +1,4 @@
-use Rattle.std.proofs.Common.{◌≡◌, ◌&&◌, List, ℕ, Bor, true, false, IsSome, map, sym, subst, ap, ◌∙◌, arith, rules}
+use Rattle.std.proofs.Common.{◌≡◌, ◌&&◌, List, ℕ, Bor, true, IsSome, map, sym, subst, ap, ◌∙◌, arith, rules}
 use Rattle.std.specs.List.{list_any}
 use Rattle.std.proofs.lemmas.List.{map-id}
 use Rattle.std.proofs.lemmas.Iterator.Adapters.{YieldsList-from_vec}
@@ -58,7 +58,7 @@ returns-clause-gone g c t test =
     let tree = tree_of c.args.tree.now.seen.present.held in
     let given = c.into_iter-file-iterator.ensures.into_iter_gives in
     let end = YieldsList-end (YieldsList-from_vec {s = c.into_iter-file-iterator.result} c.sort_unstable.new.self.items given.0 (given.1 ∙ c.sort_unstable.new.self.ok.0))
-        c.loop-file.yielded c.loop-file.file-iterator c.loop-file.yielded_by c.next.result c.next.new.self c.in-None.is c.next.ensures.steps in
+    c.loop-file.yielded c.loop-file.file-iterator c.loop-file.yielded_by c.next.result c.next.new.self c.in-None.is c.next.ensures.steps in
     let all : c.loop-file.yielded ≡ c.sort_unstable.new.self.items = sym (map-id c.loop-file.yielded) ∙ end.0 in
     c.loop-file.invariant.gone t test
     ∙ ap (λ (files : List (List ℕ × Bor (List ℕ))). list_any (λ d. is_gone tree d && test d) (map (λ file. claim_by file.1.now file.0) files)) all
