@@ -32,13 +32,8 @@ pub(crate) fn host(rt: &impl Abort, alloc: Global, held: &[(&str, &[u8])]) -> Me
     MemHost::new(alloc, made).ok().expect(rt, "a host")
 }
 
-// A shelf of one repository that holds these files.
-pub(crate) fn shelf(rt: &impl Abort, alloc: Global, held: &[(&str, &[u8])]) -> MemShelf {
-    shelf_of(rt, alloc, &[held], &[])
-}
-
 // A shelf of repositories that hold these files, at which these calls fail.
-pub(crate) fn shelf_of(
+pub(crate) fn shelf(
     rt: &impl Abort,
     alloc: Global,
     held: &[&[(&str, &[u8])]],

@@ -1,5 +1,5 @@
 //! Commands over repositories, and what they say: pins, damage, absent files and failing calls.
-use crate::hosts::{carry_out_over, host, shelf_of, words};
+use crate::hosts::{carry_out_over, host, shelf, words};
 
 const DATABASE: &str = "tlpkg/texlive.tlpdb";
 
@@ -303,7 +303,7 @@ fn a_row_says_what_its_repositories_give(rt: HostRuntime) {
     for row in &ROWS {
         let words = words(&rt, alloc, row.words);
         let host = host(&rt, alloc, row.files);
-        let shelf = shelf_of(&rt, alloc, row.repos, row.failing);
+        let shelf = shelf(&rt, alloc, row.repos, row.failing);
         let (ending, host) = carry_out_over(&rt, alloc, &words, host, shelf);
         assert_eq!(rt; host.said(), row.said.as_bytes());
         assert!(rt; ending.status() == row.status);
