@@ -159,7 +159,10 @@ fn tell_repositories<W: fmt::Write>(refusal: &Refusal, f: &mut fmt::Formatter<W>
             "the repository {repo} has containers in the format {}, which this program does not read",
             OneWord(format.bytes()),
         ),
-        Refusal::UnknownPackage { name } => write!(f, "no repository has a package {name}"),
+        Refusal::UnknownPackage { name } => write!(
+            f,
+            "no package {name} is here, and none that the pins let come from a repository",
+        ),
         Refusal::MirrorMoving { name } => write!(
             f,
             "the repository changed while it was copied, the last time at {name}; try again later",

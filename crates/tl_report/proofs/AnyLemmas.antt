@@ -1,5 +1,5 @@
 -- Whether an element passes a test: of lists that are made from others, and of texts in the order of their bytes.
-use Rattle.std.proofs.Common.{◌≡◌, ◌⊎◌, ℕ, Bool, true, false, cond, ◌&&◌, ◌||◌, List, [], ◌∷◌, ◌++◌, map, refl, sym, ap, subst, ◌∙◌, inl, inr}
+use Rattle.std.proofs.Common.{◌≡◌, ◌⊎◌, ℕ, Bool, true, false, cond, ◌&&◌, ◌||◌, List, [], ◌∷◌, map, refl, sym, ap, ◌∙◌, inl, inr}
 use Rattle.std.specs.Prelude.{filter, find, not, Some, is_none}
 use Rattle.std.specs.List.{list_any, flat_map, AllByRecursion}
 use Rattle.std.proofs.lemmas.Bool.{cases_Bool, true≢false}
@@ -7,7 +7,7 @@ use Rattle.std.proofs.lemmas.List.Folds.{list_any-append}
 use Rattle.tl_model.specs.Lines.{text_of}
 use Rattle.tl_model.specs.Volume.{same_name, same_name-is}
 use Rattle.tl_entry.specs.Rising.{comes_before, insert_by, has_key}
-use Rattle.tl_entry.specs.FilePaths.{with_text, rising_of}
+use Rattle.tl_entry.specs.FilePaths.{rising_of}
 use Rattle.tl_entry.proofs.SetLemmas.{rising_of_is, has-rising_of, rising-rising_of}
 use Rattle.tl_report.specs.Lines.{in_order}
 

@@ -8,7 +8,7 @@ use Rattle.tl_entry.specs.FilePaths.{listed_paths, file_paths}
 use Rattle.tl_entry.specs.Sections.{paths_of}
 use Rattle.tl_entry.specs.declared.object.Object.{Object}
 use Rattle.tl_entry.specs.declared.object.BinFiles.{BinFiles}
-use Rattle.tl_tree.specs.Changes.{listed, own, path_of, bin_paths}
+use Rattle.tl_tree.specs.Changes.{listed, own}
 use Rattle.tl_report.specs.Claims.{Claim, claim_by, claims_by, claims}
 use Rattle.tl_report.proofs.AnyLemmas.{any-map, any-filter, any-rising_of}
 

@@ -1,7 +1,7 @@
 -- Depends that stand for names which no entry has.
-use Rattle.std.proofs.Common.{◌≡◌, ◌+◌, ◌-◌, ◌==◌, ℕ, Bool, true, false, cond, ◌&&◌, ◌||◌, List, [], ◌∷◌, ◌++◌, suc, length, take, drop, map, refl, sym, ap, ◌∙◌, inl, inr, append_assoc, Bor, arith}
+use Rattle.std.proofs.Common.{◌≡◌, ◌-◌, ◌==◌, ℕ, Bool, true, false, cond, ◌&&◌, ◌||◌, List, [], ◌∷◌, ◌++◌, suc, length, take, drop, map, refl, sym, ap, ◌∙◌, inl, inr, append_assoc, Bor, arith}
 use Rattle.std.proofs.lemmas.Bool.{cases_Bool, eqb-true}
-use Rattle.std.specs.Prelude.{not, Option, Some, None, is_some, is_none, option_copied, nat_eq, codes, filter, if◌then◌else◌}
+use Rattle.std.specs.Prelude.{not, Option, Some, None, is_some, is_none, option_copied, nat_eq, codes}
 use Rattle.std.specs.List.{list_any, flat_map}
 use Rattle.std.specs.Cmp.Lexicographic.{pointwise, nat_list_eq_equiv}
 use Rattle.tl_model.specs.Volume.{same_name}
@@ -9,7 +9,7 @@ use Rattle.tl_model.specs.Words.{is_full}
 use Rattle.tl_path.specs.Names.{is_name}
 use Rattle.tl_entry.specs.declared.object.Object.{Object}
 use Rattle.tl_db.specs.Entries.{entry_of}
-use Rattle.tl_depend.specs.Names.{named_by, spelled_out}
+use Rattle.tl_depend.specs.Names.{spelled_out}
 use Rattle.tl_report.specs.Depends.{is_absent, is_absent_name, is_unmet, unmet_lines}
 use Rattle.tl_report.proofs.AnyLemmas.{any-map, any-filter, none-find}
 

@@ -9,3 +9,4 @@ pub mod NamedLines
 pub mod OfferLines
 pub mod ByteLemmas
 pub mod ViewLemmas
+pub mod WalkLemmas

@@ -1,5 +1,5 @@
 -- The lines of files that aren't there, as the files are asked for one by one.
-use Rattle.std.proofs.Common.{◌≡◌, ◌+◌, ◌<◌, ℕ, Bool, true, false, cond, ◌&&◌, List, [], ◌∷◌, ◌++◌, length, get_or, take, map, Option, Some, None, refl, sym, ap, ◌∙◌}
+use Rattle.std.proofs.Common.{◌≡◌, ◌+◌, ◌<◌, ℕ, Bool, true, false, cond, ◌&&◌, List, [], ◌∷◌, ◌++◌, length, get_or, take, map, Option, Some, None, sym, ap, ◌∙◌}
 use Rattle.std.specs.Prelude.{filter, is_some, is_none}
 use Rattle.std.proofs.lemmas.List.{map_more, map-append, append-nil}
 use Rattle.std.proofs.lemmas.List.Elements.{filter-append}
@@ -41,15 +41,18 @@ module _ {A : Type 0} (f : A → Claim) (tree now : Volume) (files : List A) (i 
       ∙ ap (λ (p : List ℕ). missing_among tree (map f (take i files)) ++ line_of Missing (f x).owner p ∷ []) is_path
       ∙ sym (missing_next ∙ ap (λ t. missing_among tree (map f (take i files)) ++ map missing_line (cond t (f x ∷ []) [])) (gone_as false lost))
 
--- the same files, and the same lines
-pub same-missing : (tree : Volume) (line : List ℕ) (cs ds : List Claim) → ((test : Claim → Bool) → list_any test cs ≡ list_any test ds)
+-- the same files that aren't there, and the same lines
+pub same-missing : (tree : Volume) (line : List ℕ) (cs ds : List Claim) → ((test : Claim → Bool) → list_any (λ c. is_gone tree c && test c) cs ≡ list_any (λ c. is_gone tree c && test c) ds)
     → has_key (λ (l : List ℕ). l) line (missing_among tree cs) ≡ has_key (λ (l : List ℕ). l) line (missing_among tree ds)
-same-missing tree line cs ds same = hits cs ∙ same (λ c. is_gone tree c && same_name (missing_line c) line) ∙ sym (hits ds)
+same-missing tree line cs ds same = hits cs ∙ same (λ c. same_name (missing_line c) line) ∙ sym (hits ds)
   where
     hits : (files : List Claim) → has_key (λ (l : List ℕ). l) line (missing_among tree files) ≡ list_any (λ c. is_gone tree c && same_name (missing_line c) line) files
     hits files = any-map (λ l. same_name l line) missing_line (filter (is_gone tree) files) ∙ any-filter (λ c. same_name (missing_line c) line) (is_gone tree) files
 
--- the files of a database by other names of both
-pub found-as : {A : Type 0} (f : A → Claim) (xs ys : List A) → xs ≡ ys → (old db : List Object) → old ≡ db → ((test : Claim → Bool) → list_any test (map f ys) ≡ list_any test (claims old))
-    → (test : Claim → Bool) → list_any test (map f xs) ≡ list_any test (claims db)
-found-as {A = A} f xs ys same old db is has test = ap (λ (zs : List A). list_any test (map f zs)) same ∙ has test ∙ ap (λ (os : List Object). list_any test (claims os)) is
+-- the files of a database that aren't there, among fewer files and by other names
+pub found-as : {A : Type 0} (f : A → Claim) (tree : Volume) (xs ys zs : List A) → xs ≡ ys → (old db : List Object) → old ≡ db
+    → ((test : Claim → Bool) → list_any (λ c. is_gone tree c && test c) (map f ys) ≡ list_any (λ c. is_gone tree c && test c) (map f zs)) → ((test : Claim → Bool) → list_any test (map f zs) ≡ list_any test (claims old))
+    → (test : Claim → Bool) → list_any (λ c. is_gone tree c && test c) (map f xs) ≡ list_any (λ c. is_gone tree c && test c) (claims db)
+found-as {A = A} f tree xs ys zs same old db is fewer has test =
+    ap (λ (files : List A). list_any (λ c. is_gone tree c && test c) (map f files)) same ∙ fewer test ∙ has (λ c. is_gone tree c && test c)
+    ∙ ap (λ (os : List Object). list_any (λ c. is_gone tree c && test c) (claims os)) is

@@ -1,5 +1,5 @@
 -- Lines on packages are whole lines and no acknowledgements, whatever the packages are called.
-use Rattle.std.proofs.Common.{◌≡◌, ◌==◌, ◌^◌, ◌<◌, ◌+◌, ℕ, suc, Bool, true, false, cond, ◌&&◌, List, [], ◌∷◌, ◌++◌, ◌⊎◌, nat_eq, append_assoc, take, refl, sym, ◌∙◌, ap, subst, inl, inr, arith}
+use Rattle.std.proofs.Common.{◌≡◌, ◌==◌, ◌^◌, ◌<◌, ◌+◌, ℕ, suc, Bool, true, false, cond, ◌&&◌, List, [], ◌∷◌, ◌++◌, nat_eq, append_assoc, take, refl, sym, ◌∙◌, ap, subst, inl, inr, arith}
 use Rattle.std.specs.Prelude.{codes, not, is_some}
 use Rattle.std.specs.Char.{is_ascii_digit}
 use Rattle.std.specs.List.{AllByRecursion, list_all, before_first, prefix_len}
@@ -16,9 +16,9 @@ use Rattle.tl_path.specs.Kinds.{category_text}
 use Rattle.tl_path.proofs.Words.{word_all}
 use Rattle.tl_entry.specs.declared.object.Object.{Object}
 use Rattle.tl_db.specs.Entries.{entry_of}
-use Rattle.tl_report.specs.Info.{fact_word, fact_line, revision_text, standing_text, listing_line, shortdesc_of}
+use Rattle.tl_report.specs.Info.{fact_word, known_line, revision_text, standing_text, listing_line, shortdesc_or_empty}
 use Rattle.tl_report.specs.Lines.{IsReportLine}
-use Rattle.tl_report.specs.Offers.{mark_text, offer_line}
+use Rattle.tl_report.specs.Offers.{chosen_mark, offer_line}
 use Rattle.tl_report.specs.Search.{found_line}
 use Rattle.tl_report.specs.declared.facts.Fact.{Fact}
 use Rattle.tl_report.specs.declared.facts.Fact.TheVariants as facts
@@ -31,7 +31,7 @@ line_of_fact facts.Shortdesc = line_of_all (λ b. not (b == 10)) refl (codes "sh
 line_of_fact facts.Installed = line_of_all (λ b. not (b == 10)) refl (codes "installed") refl
 line_of_fact facts.Candidate = line_of_all (λ b. not (b == 10)) refl (codes "candidate") refl
 
-fact_other : (fact : Fact) (about : List ℕ) → is_ack (fact_line fact about) ≡ false
+fact_other : (fact : Fact) (about : List ℕ) → is_ack (known_line fact about) ≡ false
 fact_other facts.Package about = refl
 fact_other facts.Category about = refl
 fact_other facts.Shortdesc about = refl
@@ -39,7 +39,7 @@ fact_other facts.Installed about = refl
 fact_other facts.Candidate about = refl
 
 -- the line of a fact is one of a report
-pub report-fact_line : (fact : Fact) (about : List ℕ) → IsLine about → IsReportLine (fact_line fact about)
+pub report-fact_line : (fact : Fact) (about : List ℕ) → IsLine about → IsReportLine (known_line fact about)
 report-fact_line fact about is = record {
   whole = line_of_two (fact_word fact) about (line_of_fact fact) is;
   other = fact_other fact about;
@@ -76,14 +76,14 @@ standing_other true name rest = refl
 standing_other false name rest = refl
 
 -- the line of a package among all is one of a report
-pub report-listing_line : (installed : List Object) (entry : Object) → is_name entry.name ≡ true → IsLine (shortdesc_of entry) → IsReportLine (listing_line installed entry)
+pub report-listing_line : (installed : List Object) (entry : Object) → is_name entry.name ≡ true → IsLine (shortdesc_or_empty entry) → IsReportLine (listing_line installed entry)
 report-listing_line installed entry is short =
     let there = is_some (entry_of entry.name installed) in
     record {
-      whole = All-append (λ b. (b == 10) ≡ false) (standing_text there ++ 32 ∷ entry.name) (58 ∷ 32 ∷ shortdesc_of entry)
+      whole = All-append (λ b. (b == 10) ≡ false) (standing_text there ++ 32 ∷ entry.name) (58 ∷ 32 ∷ shortdesc_or_empty entry)
           (line_of_two (standing_text there) entry.name (line_of_standing there) (line_of_name entry.name is))
-          (All-cons (λ b. (b == 10) ≡ false) 58 (32 ∷ shortdesc_of entry) refl (All-cons (λ b. (b == 10) ≡ false) 32 (shortdesc_of entry) refl short));
-      other = standing_other there entry.name (32 ∷ shortdesc_of entry);
+          (All-cons (λ b. (b == 10) ≡ false) 58 (32 ∷ shortdesc_or_empty entry) refl (All-cons (λ b. (b == 10) ≡ false) 32 (shortdesc_or_empty entry) refl short));
+      other = standing_other there entry.name (32 ∷ shortdesc_or_empty entry);
     }
 
 and_false : (b : Bool) → (b && false) ≡ false
@@ -138,23 +138,23 @@ no_ratio b rest no_space no_slash no_digit =
     ∙ ap is_decimal (first_kept (λ c. c == 47) b (before_first (λ c. c == 32) rest) no_slash) ∙ no_number b _ no_digit
 
 -- the line of an entry that was found is one of a report
-pub report-found_line : (entry : Object) → is_name entry.name ≡ true → IsLine (shortdesc_of entry) → IsReportLine (found_line entry)
+pub report-found_line : (entry : Object) → is_name entry.name ≡ true → IsLine (shortdesc_or_empty entry) → IsReportLine (found_line entry)
 report-found_line entry is short = record {
-  whole = line_of_two entry.name (45 ∷ 32 ∷ shortdesc_of entry) (line_of_name entry.name is)
-      (All-cons (λ b. (b == 10) ≡ false) 45 (32 ∷ shortdesc_of entry) refl (All-cons (λ b. (b == 10) ≡ false) 32 (shortdesc_of entry) refl short));
-  other = other_named is_of_name refl entry.name 45 (32 ∷ shortdesc_of entry) (word_all is_letter_or_digit is_of_name 128 entry.name is) (no_ratio 45 (32 ∷ shortdesc_of entry) refl refl refl);
+  whole = line_of_two entry.name (45 ∷ 32 ∷ shortdesc_or_empty entry) (line_of_name entry.name is)
+      (All-cons (λ b. (b == 10) ≡ false) 45 (32 ∷ shortdesc_or_empty entry) refl (All-cons (λ b. (b == 10) ≡ false) 32 (shortdesc_or_empty entry) refl short));
+  other = other_named is_of_name refl entry.name 45 (32 ∷ shortdesc_or_empty entry) (word_all is_letter_or_digit is_of_name 128 entry.name is) (no_ratio 45 (32 ∷ shortdesc_or_empty entry) refl refl refl);
 }
 
-line_of_mark : (marked : Bool) → IsLine (mark_text marked)
+line_of_mark : (marked : Bool) → IsLine (chosen_mark marked)
 line_of_mark true = line_of_all (λ b. not (b == 10)) refl (codes " *") refl
 line_of_mark false = All-nil (λ b. (b == 10) ≡ false)
 
 -- the line of a repository that has a package is one of a report
 pub report-offer_line : (tag : List ℕ) (revision : ℕ) (marked : Bool) → is_tag tag ≡ true → revision < 2 ^ 64 → IsReportLine (offer_line tag revision marked)
 report-offer_line tag revision marked is small = record {
-  whole = All-append (λ b. (b == 10) ≡ false) (tag ++ 32 ∷ revision_text revision) (mark_text marked) (line_of_offer tag revision is small) (line_of_mark marked);
-  other = subst (λ (line : List ℕ). is_ack line ≡ false) (sym (append_assoc tag (32 ∷ revision_text revision) (mark_text marked)))
-      (other_named is_of_tag refl tag 114 (decimal_text revision ++ mark_text marked) (word_all is_letter_or_digit is_of_tag 64 tag is) (no_ratio 114 (decimal_text revision ++ mark_text marked) refl refl refl));
+  whole = All-append (λ b. (b == 10) ≡ false) (tag ++ 32 ∷ revision_text revision) (chosen_mark marked) (line_of_offer tag revision is small) (line_of_mark marked);
+  other = subst (λ (line : List ℕ). is_ack line ≡ false) (sym (append_assoc tag (32 ∷ revision_text revision) (chosen_mark marked)))
+      (other_named is_of_tag refl tag 114 (decimal_text revision ++ chosen_mark marked) (word_all is_letter_or_digit is_of_tag 64 tag is) (no_ratio 114 (decimal_text revision ++ chosen_mark marked) refl refl refl));
 }
 
 wholes : (xs : List (List ℕ)) → AllByRecursion IsReportLine xs → AllByRecursion IsLine xs

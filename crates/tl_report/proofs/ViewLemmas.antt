@@ -1,11 +1,9 @@
 -- The entries of the view, gathered as references.
-use Rattle.std.proofs.Common.{◌≡◌, ◌+◌, ◌<◌, ℕ, List, [], ◌∷◌, ◌++◌, length, take, get_or, map, Option, Some, None, Bor, refl, sym, ◌∙◌, ap, append_assoc}
-use Rattle.std.specs.List.{flat_map, filter_map, cons_option}
-use Rattle.std.proofs.lemmas.List.{append-nil, map_more, take_more}
+use Rattle.std.proofs.Common.{◌≡◌, ◌+◌, ◌<◌, ℕ, List, [], ◌∷◌, ◌++◌, length, take, get_or, map, Option, Some, None, Bor, refl, sym, ◌∙◌, ap}
+use Rattle.std.specs.List.{filter_map, cons_option}
+use Rattle.std.proofs.lemmas.List.{append-nil, map_more}
 use Rattle.std.proofs.lemmas.List.Elements.{filter_map-append}
 use Rattle.tl_entry.specs.declared.object.Object.{Object}
-use Rattle.tl_db.specs.declared.repo.Repo.{Repo}
-use Rattle.tl_report.specs.View.{entry_names, all_names}
 
 -- the entries to which references lead
 abbrev pub entries_at : List (Bor Object) → List Object

@@ -21,9 +21,9 @@ fact_word Shortdesc = codes "shortdesc"
 fact_word Installed = codes "installed"
 fact_word Candidate = codes "candidate"
 
--- the line that says a fact of a package
-abbrev pub fact_line : Fact → List ℕ → List ℕ
-fact_line fact about = fact_word fact ++ 32 ∷ about
+-- the line that says what is known of a package
+abbrev pub known_line : Fact → List ℕ → List ℕ
+known_line fact about = fact_word fact ++ 32 ∷ about
 
 -- a revision as it is said
 abbrev pub revision_text : ℕ → List ℕ
@@ -46,14 +46,14 @@ candidate_text repos (Some candidate) = repo_tag repos candidate.0 ++ 32 ∷ rev
 -- the line of a short description, where there is one
 abbrev pub shortdesc_lines : Option (List ℕ) → List (List ℕ)
 shortdesc_lines None = []
-shortdesc_lines (Some shortdesc) = fact_line Shortdesc shortdesc ∷ []
+shortdesc_lines (Some shortdesc) = known_line Shortdesc shortdesc ∷ []
 
 -- what is said of a package whose entry in the view is this one: what it is there, what is installed, and the candidate
 abbrev pub package_lines : List PinLine → List Repo → List Object → List ℕ → Object → List (List ℕ)
 package_lines pins repos installed name entry =
-    fact_line Package name ∷ fact_line Category (category_text entry.category) ∷ shortdesc_lines entry.shortdesc
-    ++ fact_line Installed (installed_text (entry_of name installed))
-    ∷ fact_line Candidate (candidate_text repos (candidate_of pins repos name)) ∷ []
+    known_line Package name ∷ known_line Category (category_text entry.category) ∷ shortdesc_lines entry.shortdesc
+    ++ known_line Installed (installed_text (entry_of name installed))
+    ∷ known_line Candidate (candidate_text repos (candidate_of pins repos name)) ∷ []
 
 -- what `info` says of a package; nothing where it is neither installed nor has a candidate
 abbrev pub package_text : List PinLine → List Repo → List Object → List ℕ → Option (List ℕ)
@@ -61,8 +61,8 @@ package_text pins repos installed name =
     option_map (λ entry. text_of (package_lines pins repos installed name entry)) (view_entry pins repos installed name)
 
 -- the short description of an entry, empty where it has none
-abbrev pub shortdesc_of : Object → List ℕ
-shortdesc_of entry = unwrap_or entry.shortdesc []
+abbrev pub shortdesc_or_empty : Object → List ℕ
+shortdesc_or_empty entry = unwrap_or entry.shortdesc []
 
 -- whether a package is installed, as it is said among all
 abbrev pub standing_text : Bool → List ℕ
@@ -71,7 +71,7 @@ standing_text installed = if installed then codes "i" else codes "-"
 -- the line of a package among all: whether it is installed, its name, a colon and its short description
 abbrev pub listing_line : List Object → Object → List ℕ
 listing_line installed entry =
-    standing_text (is_some (entry_of entry.name installed)) ++ 32 ∷ entry.name ++ 58 ∷ 32 ∷ shortdesc_of entry
+    standing_text (is_some (entry_of entry.name installed)) ++ 32 ∷ entry.name ++ 58 ∷ 32 ∷ shortdesc_or_empty entry
 
 -- what `info` says of all packages: a line for each entry of the view
 abbrev pub listing_text : List PinLine → List Repo → List Object → List ℕ

@@ -9,3 +9,4 @@ pub mod View
 pub mod Info
 pub mod Search
 pub mod Offers
+pub mod Walk

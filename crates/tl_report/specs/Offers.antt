@@ -12,12 +12,12 @@ use Rattle.tl_report.specs.declared.error.ReportError.{ReportError}
 use Rattle.tl_report.specs.declared.error.ReportError.TheVariants.{UnknownPackage, HostFault, NoMemory}
 
 -- what stands behind the line of a repository: a mark, or nothing
-abbrev pub mark_text : Bool → List ℕ
-mark_text marked = if marked then codes " *" else []
+abbrev pub chosen_mark : Bool → List ℕ
+chosen_mark marked = if marked then codes " *" else []
 
 -- the line of a repository that has a package: its tag, its revision, and a mark where it is the candidate's
 abbrev pub offer_line : List ℕ → ℕ → Bool → List ℕ
-offer_line tag revision marked = tag ++ 32 ∷ revision_text revision ++ mark_text marked
+offer_line tag revision marked = tag ++ 32 ∷ revision_text revision ++ chosen_mark marked
 
 -- whether a choice, if there is one, is at a place
 abbrev pub is_chosen : {A : Type 0} → Option (ℕ × A) → ℕ → Bool

@@ -5,7 +5,7 @@ use Rattle.tl_model.specs.Lines.{text_of}
 use Rattle.tl_entry.specs.declared.object.Object.{Object}
 use Rattle.tl_db.specs.declared.repo.Repo.{Repo}
 use Rattle.tl_pin.specs.declared.line.PinLine.{PinLine}
-use Rattle.tl_report.specs.Info.{shortdesc_of}
+use Rattle.tl_report.specs.Info.{shortdesc_or_empty}
 use Rattle.tl_report.specs.View.{view_entries}
 
 -- whether a text has the bytes of a word, one behind the other
@@ -15,11 +15,11 @@ has_bytes word (b ∷ text) = starts_with nat_eq (b ∷ text) word || has_bytes 
 
 -- whether the name or the short description of an entry has them
 abbrev pub is_about : List ℕ → Object → Bool
-is_about word entry = has_bytes word entry.name || has_bytes word (shortdesc_of entry)
+is_about word entry = has_bytes word entry.name || has_bytes word (shortdesc_or_empty entry)
 
 -- the line of an entry that was found: its name, a dash and its short description
 abbrev pub found_line : Object → List ℕ
-found_line entry = entry.name ++ 32 ∷ 45 ∷ 32 ∷ shortdesc_of entry
+found_line entry = entry.name ++ 32 ∷ 45 ∷ 32 ∷ shortdesc_or_empty entry
 
 -- what `search` says: a line for each entry of the view that has the word
 abbrev pub search_text : List PinLine → List Repo → List Object → List ℕ → List ℕ

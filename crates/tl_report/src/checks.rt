@@ -18,13 +18,15 @@ use crate::duplicates::duplicates;
 use crate::error::ReportError;
 use crate::executes::executes;
 use crate::missing::missing;
+use crate::walk::unmet;
 use std::alloc::{AllocError, Global};
 use tl_db::Db;
 use tl_host::Host;
 use tl_path::Check;
 use tl_tree::Tree;
 
-// The text on files that aren't there. It copies the database, since a tree is asked while its entries are walked over.
+// The text on files that aren't there: those that a walk over the tree's names doesn't meet, and that the tree then says are absent.
+// It copies the database, since a tree is asked while its entries are walked over.
 fn files_text<H: Host>(alloc: Global, tree: &mut Tree<H>) -> Result<Vec<u8>, ReportError>
     ensures text { Told H.tells (IfOk result (λ text. text.items
         ≡ in_order (missing_lines (tree_of tree.old.seen.present.held) tree.old.db))) }
@@ -35,7 +37,8 @@ fn files_text<H: Host>(alloc: Global, tree: &mut Tree<H>) -> Result<Vec<u8>, Rep
 {
     let db = tree.db().copy(alloc)?;
     let files = files_of(alloc, &db)?;
-    let lines = missing(alloc, &files, tree)?;
+    let doubtful = unmet(alloc, files, tree)?;
+    let lines = missing(alloc, &doubtful, tree)?;
     Ok(lines.into_text(alloc)?)
 }
 

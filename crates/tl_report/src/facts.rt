@@ -3,7 +3,7 @@ ghost use Rattle.std.specs.Prelude.{◌≡◌, ◌≤◌, [], ◌++◌, ◌∷�
 ghost use Rattle.tl_model.specs.Lines.{IsLine};
 ghost use Rattle.tl_path.specs.Names.{is_tag};
 ghost use Rattle.tl_pin.specs.Candidates.{candidate_of};
-ghost use Rattle.tl_report.specs.Info.{candidate_text, fact_line, fact_word, installed_text, package_lines, revision_text, shortdesc_lines};
+ghost use Rattle.tl_report.specs.Info.{candidate_text, known_line, fact_word, installed_text, package_lines, revision_text, shortdesc_lines};
 ghost use Rattle.tl_report.specs.Lines.{IsReportLine};
 
 use crate::lines::Lines;
@@ -46,7 +46,7 @@ impl Fact {
 // The line of a fact.
 fn fact_line(alloc: Global, fact: Fact, about: &str) -> Result<String, AllocError>
     requires { IsLine about.now }
-    ensures line { IfOk result (λ line. string_bytes line ≡ fact_line fact about.now) }
+    ensures line { IfOk result (λ line. string_bytes line ≡ known_line fact about.now) }
     ensures report { IfOk result (λ line. IsReportLine (string_bytes line)) }
 {
     let word = fact.word();
@@ -56,7 +56,7 @@ fn fact_line(alloc: Global, fact: Fact, about: &str) -> Result<String, AllocErro
 // Adds the line of a fact.
 fn add_fact(alloc: Global, lines: &mut Lines, fact: Fact, about: &str) -> Result<(), AllocError>
     requires { IsLine about.now }
-    ensures { OnOk result (lines.new ≡ lines.old ++ fact_line fact about.now ∷ []) }
+    ensures { OnOk result (lines.new ≡ lines.old ++ known_line fact about.now ∷ []) }
 {
     lines.add(fact_line(alloc, fact, about)?)
 }

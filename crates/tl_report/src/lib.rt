@@ -14,6 +14,7 @@ mod missing;
 mod offers;
 mod packages;
 mod view;
+mod walk;
 
 pub use checks::check;
 pub use error::ReportError;

@@ -3,7 +3,7 @@ ghost use Rattle.std.specs.Prelude.{◌≡◌, ◌≤◌, length, Some, string_b
 ghost use Rattle.tl_model.specs.Acks.{IsPlain};
 ghost use Rattle.tl_pin.specs.Candidates.{candidate_of};
 ghost use Rattle.tl_report.specs.Lines.{IsReportLine};
-ghost use Rattle.tl_report.specs.Offers.{IsUnreported, candidates_text, is_chosen, mark_text, offer_line, offers_from};
+ghost use Rattle.tl_report.specs.Offers.{IsUnreported, candidates_text, is_chosen, chosen_mark, offer_line, offers_from};
 
 use crate::error::ReportError;
 use crate::facts::offer_text;
@@ -15,7 +15,7 @@ use tl_pin::{Pins, candidate};
 
 // What stands behind the line of a repository.
 fn mark_text(marked: bool) -> &'static str
-    ensures { result.now ≡ mark_text marked }
+    ensures { result.now ≡ chosen_mark marked }
 {
     if marked { " *" } else { "" }
 }

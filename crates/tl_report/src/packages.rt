@@ -3,7 +3,7 @@ ghost use Rattle.std.specs.Prelude.{◌≡◌, ◌≤◌, is_some, length, map, 
 ghost use Rattle.tl_model.specs.Acks.{IsPlain};
 ghost use Rattle.tl_model.specs.Lines.{IsLine};
 ghost use Rattle.tl_db.specs.Entries.{entry_of};
-ghost use Rattle.tl_report.specs.Info.{info_text, listing_line, listing_text, package_text, shortdesc_of, standing_text};
+ghost use Rattle.tl_report.specs.Info.{info_text, listing_line, listing_text, package_text, shortdesc_or_empty, standing_text};
 ghost use Rattle.tl_report.specs.Lines.{IsReportLine};
 ghost use Rattle.tl_report.specs.Offers.{IsUnreported};
 ghost use Rattle.tl_report.specs.View.{view_entries};
@@ -22,8 +22,8 @@ use tl_tree::Tree;
 
 /// The short description of an entry, empty where it has none.
 pub(crate) fn shortdesc_of(entry: &Object) -> &str
-    ensures text { result.now ≡ shortdesc_of entry.now }
-    ensures line { IsLine (shortdesc_of entry.now) }
+    ensures text { result.now ≡ shortdesc_or_empty entry.now }
+    ensures line { IsLine (shortdesc_or_empty entry.now) }
 {
     match &entry.shortdesc {
         Some(text) => text.text(),

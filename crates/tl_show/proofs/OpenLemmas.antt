@@ -18,7 +18,7 @@ use Rattle.tl_offer.specs.Offered.{counted_faults, offering}
 use Rattle.tl_offer.proofs.OfferLemmas.{performs_offered, performs_beside, labelled-offered, host_told}
 use Rattle.tl_report.specs.Info.{package_text}
 use Rattle.tl_report.specs.Offers.{candidates_text}
-use Rattle.tl_show.specs.Opening.{OpensOffer, over_offer, told_run}
+use Rattle.tl_show.specs.Opening.{Opens, over_offer, told_run}
 use Rattle.tl_show.specs.Info.{info_run}
 use Rattle.tl_show.specs.Search.{search_run}
 use Rattle.tl_show.specs.Candidates.{candidates_run}
@@ -32,7 +32,7 @@ loads_fewer fewer more told first loaded loads = record {
 
 module _ {T : Type 0} (shelf host : Bool) (seen : T → Seen) (repositories : List Repository) (volumes : List Volume) (before after : ℕ) (ending : Ending) (state : Result Seen T) (first : Seen) where
   -- what is left of a command that was opened
-  pub performs_opened : (opened : Planted) (pins : List PinLine) (repos : List Repo) (go : List Object → List PinLine → List Repo → Run) → OpensOffer shelf host repositories volumes first opened pins repos
+  pub performs_opened : (opened : Planted) (pins : List PinLine) (repos : List Repo) (go : List Object → List PinLine → List Repo → Run) → Opens shelf host repositories volumes first opened pins repos
       → Performs host seen (λ _. go opened.db pins repos) 0 opened.seen no_devices no_devices ending state
       → Performs (shelf && host) seen (over_offer repositories volumes go) 0 first (counted_faults before) (counted_faults after) ending state
   performs_opened opened pins repos go opens near =

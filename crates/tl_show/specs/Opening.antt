@@ -17,7 +17,7 @@ abbrev pub over_offer : List Repository → List Volume → (List Object → Lis
 over_offer repositories volumes go tree = over_database (λ entries. offering repositories volumes (go entries) tree) (database_text tree)
 
 -- a tree was loaded, and then its pins and some repositories: nothing else was done
-pub record OpensOffer (shelf host : Bool) (repositories : List Repository) (volumes : List Volume) (first : Seen) (opened : Planted)
+pub record Opens (shelf host : Bool) (repositories : List Repository) (volumes : List Volume) (first : Seen) (opened : Planted)
     (pins : List PinLine) (repos : List Repo) : Type 0 where
   pub loaded : Planted
   pub loads : Loads host first loaded

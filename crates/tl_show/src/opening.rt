@@ -10,7 +10,7 @@ ghost use Rattle.tl_command.specs.Performs.{Performs};
 ghost use Rattle.tl_command.specs.Runs.{Run};
 ghost use Rattle.tl_offer.specs.Offered.{counted_faults};
 ghost use Rattle.tl_report.specs.Offers.{IsUnreported};
-ghost use Rattle.tl_show.specs.Opening.{OpensOffer, over_offer, told_run};
+ghost use Rattle.tl_show.specs.Opening.{Opens, over_offer, told_run};
 
 use std::alloc::Global;
 use tl_action::Repository;
@@ -29,7 +29,7 @@ pub(crate) fn open<H: Host, S: Shelf>(
     shelf: &mut S,
     session: Session<H>,
 ) -> Result<(Offer, Tree<H>), Acted<H>>
-    ensures opened { IfOk result (λ found. OpensOffer S.tells H.tells repositories.now (S.seen shelf.old).repositories
+    ensures opened { IfOk result (λ found. Opens S.tells H.tells repositories.now (S.seen shelf.old).repositories
         session found.1 found.0.pins found.0.repos.items) }
     ensures acted { IfErr result (λ acted. (go : Volume → List Object → List PinLine → List Repo → Run) →
         Performs (S.tells && H.tells) H.seen (λ tree. over_offer repositories.now (S.seen shelf.old).repositories (go tree) tree) 0 session

@@ -32,14 +32,24 @@ pub(crate) fn host(rt: &impl Abort, alloc: Global, held: &[(&str, &[u8])]) -> Me
     MemHost::new(alloc, made).ok().expect(rt, "a host")
 }
 
-// A shelf of one repository that holds these files.
-pub(crate) fn shelf(rt: &impl Abort, alloc: Global, held: &[(&str, &[u8])]) -> MemShelf {
+// A shelf of repositories that hold these files, at which these calls fail.
+pub(crate) fn shelf(
+    rt: &impl Abort,
+    alloc: Global,
+    held: &[&[(&str, &[u8])]],
+    failing: &[u64],
+) -> MemShelf {
     let mut repositories = Vec::new(alloc);
-    let added = repositories.push(files(rt, alloc, held));
-    added.ok().expect(rt, "memory");
-    MemShelf::new(alloc, repositories)
-        .ok()
-        .expect(rt, "a shelf")
+    for repository in held {
+        let added = repositories.push(files(rt, alloc, repository));
+        added.ok().expect(rt, "memory");
+    }
+    let made = MemShelf::new(alloc, repositories);
+    let mut shelf = made.ok().expect(rt, "a shelf");
+    for call in failing {
+        shelf.fail_at(*call).ok().expect(rt, "memory");
+    }
+    shelf
 }
 
 pub(crate) fn bytes_of(rt: &impl Abort, alloc: Global, bytes: &[u8]) -> Vec<u8> {

@@ -8,6 +8,8 @@ mod hosts;
 #[cfg(test)]
 mod pieces;
 #[cfg(test)]
+mod repositories;
+#[cfg(test)]
 mod rows;
 #[cfg(test)]
 mod stops;

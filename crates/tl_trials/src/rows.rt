@@ -8,7 +8,7 @@ struct Row {
     said: &'static str,
 }
 
-// What the repository of each row holds.
+// What the repository of each row holds, and that repository.
 const OFFERED: [(&str, &[u8]); 2] = [
     (
         "tlpkg/texlive.tlpdb",
@@ -19,6 +19,8 @@ const OFFERED: [(&str, &[u8]); 2] = [
         b"bc6b55f672b0d4c75c35d000a71b47b03679ba57740a25e3958b28461ef9526fa9600efc8793dd5efc8f498611313e271d8a53dd5d6c8a65813adb9489354477  texlive.tlpdb\n",
     ),
 ];
+
+const REPOSITORIES: [&[(&str, &[u8])]; 1] = [&OFFERED];
 
 const INSTALLED: (&str, &[u8]) = (
     "tlpkg/texlive.tlpdb",
@@ -89,7 +91,7 @@ fn each_action_says_what_it_finds(rt: HostRuntime) {
     for row in &ROWS {
         let words = words(&rt, alloc, row.words);
         let host = host(&rt, alloc, row.files);
-        let shelf = shelf(&rt, alloc, &OFFERED);
+        let shelf = shelf(&rt, alloc, &REPOSITORIES, &[]);
         let (ending, host) = carry_out_over(&rt, alloc, &words, host, shelf);
         assert_eq!(rt; host.said(), row.said.as_bytes());
         assert!(rt; matches!(ending, Ending::Done));

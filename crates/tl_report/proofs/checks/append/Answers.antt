@@ -1,4 +1,4 @@
-use Rattle.std.proofs.Common.{◌≡◌, ◌++◌, List, ℕ, sym, ap, subst, ◌∙◌}
+use Rattle.std.proofs.Common.{◌++◌, List, ℕ, sym, ap, subst, ◌∙◌}
 use Rattle.tl_model.specs.Acks.{IsPlain, plain-append}
 use Rattle.tl_report.proofs.checks.append.Goals as goal
 

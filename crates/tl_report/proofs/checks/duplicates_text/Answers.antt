@@ -1,4 +1,4 @@
-use Rattle.std.proofs.Common.{List, ℕ, map, ◌∙◌}
+use Rattle.std.proofs.Common.{map, ◌∙◌}
 use Rattle.std.proofs.lemmas.Result.{IfOk-weaker}
 use Rattle.tl_report.specs.Claims.{claim_by, claims}
 use Rattle.tl_report.specs.Duplicates.{clashes}

@@ -1,7 +1,7 @@
-use Rattle.std.proofs.Common.{◌≡◌, ◌∷◌, ◌||◌, List, Bool, map, sym, ap, ◌∙◌, rules}
+use Rattle.std.proofs.Common.{◌≡◌, ◌∷◌, ◌||◌, List, map, sym, ap, ◌∙◌, rules}
 use Rattle.std.specs.List.{list_any}
 use Rattle.tl_entry.specs.declared.object.Object.{Object}
-use Rattle.tl_report.specs.Claims.{Claim, claim_by, claims}
+use Rattle.tl_report.specs.Claims.{claim_by, claims}
 use Rattle.tl_report.proofs.ClaimLemmas.{claims_more}
 use Rattle.tl_report.proofs.claims.files_of.Goals as goal
 

@@ -1,5 +1,4 @@
-use Rattle.std.proofs.Common.{◌≡◌, List, ℕ, true, false, sym, subst, ap, ◌∙◌, arith, rules}
-use Rattle.tl_model.specs.Volume.{Volume}
+use Rattle.std.proofs.Common.{◌≡◌, List, ℕ, sym, subst, ap, ◌∙◌, arith, rules}
 use Rattle.tl_model.specs.Lines.{IsLine}
 use Rattle.tl_model.specs.Seen.{Moment}
 use Rattle.tl_model.specs.Pictures.{quiet_join}

@@ -1,6 +1,5 @@
-use Rattle.std.proofs.Common.{List, ℕ, Option, subst}
+use Rattle.std.proofs.Common.{List, ℕ, subst}
 use Rattle.std.specs.Option.{option_map}
-use Rattle.tl_model.specs.Volume.{Volume}
 use Rattle.tl_kind.specs.declared.quantity.What.TheVariants.{Database}
 use Rattle.tl_command.specs.Endings.{no_devices}
 use Rattle.tl_command.specs.Loaded.{Reads}
