@@ -25,7 +25,7 @@ use Rattle.std.specs.Option.{option_or}
 use Rattle.tl_plan.specs.Removal.{is_among}
 use Rattle.tl_coming.specs.Refused.{IsWantedFault}
 use Rattle.tl_coming.specs.Refused.{first_of, clash, clash_at, second_with, owns_outside, owned_at}
-use Rattle.tl_coming.specs.Listings.{is_beset, IsSettled, owned_outside}
+use Rattle.tl_coming.specs.Listings.{IsSettled, owned_outside}
 use Rattle.tl_coming.specs.declared.error.ComingError.{ComingError}
 use Rattle.tl_coming.specs.declared.error.ComingError.TheVariants.{Owned, NoMemory, HostFault}
 use Rattle.tl_plan.proofs.SetLaws.{any_flat}

@@ -1,11 +1,10 @@
 -- The steps of a plan that isn't refused are changes of a tree.
-use Rattle.std.proofs.Common.{◌≡◌, ◌⊎◌, ◌<◌, ◌≤◌, ◌+◌, ℕ, zero, suc, Bool, true, false, cond, not, ◌||◌, ◌&&◌, List, [], ◌∷◌, ◌++◌, length, map, Option, Some, None, refl, sym, ap, subst, ◌∙◌, arith, inl, inr}
+use Rattle.std.proofs.Common.{◌≡◌, ℕ, zero, suc, Bool, true, false, cond, not, ◌||◌, ◌&&◌, List, [], ◌∷◌, ◌++◌, map, Option, Some, None, refl, sym, ap, subst, ◌∙◌, inl, inr}
 use Rattle.std.specs.Prelude.{filter, is_some}
 use Rattle.std.specs.List.{list_any, flat_map, onto_first, AllByRecursion}
-use Rattle.std.proofs.lemmas.Bool.{cases_Bool, true≢false, false_from_ne_true, or_parts, or_right}
+use Rattle.std.proofs.lemmas.Bool.{cases_Bool, true≢false, false_from_ne_true, or_right}
 use Rattle.std.proofs.lemmas.List.{append_assoc, map-append}
-use Rattle.std.proofs.lemmas.List.Folds.{list_any-append}
-use Rattle.tl_model.specs.Volume.{Name, same_name, same_name-is, same_name-refl}
+use Rattle.tl_model.specs.Volume.{Name, same_name, same_name-refl}
 use Rattle.tl_model.specs.Acks.{IsLabel}
 use Rattle.tl_path.specs.Components.{is_touching}
 use Rattle.tl_path.specs.Reserved.{is_reserved}
@@ -13,18 +12,18 @@ use Rattle.tl_entry.specs.Copies.{less_containers}
 use Rattle.tl_entry.specs.Rising.{insert_by, comes_before}
 use Rattle.tl_entry.specs.FilePaths.{listed_paths}
 use Rattle.tl_entry.specs.declared.object.Object.{Object}
-use Rattle.tl_db.specs.Entries.{entry_of, others}
+use Rattle.tl_db.specs.Entries.{others}
 use Rattle.tl_db.specs.declared.repo.Repo.{Repo}
 use Rattle.tl_tree.specs.Staged.{has_name}
-use Rattle.tl_tree.specs.Changes.{own, listed, entries_after, entries_by, with_entry}
+use Rattle.tl_tree.specs.Changes.{own, listed, entries_after, entries_by}
 use Rattle.tl_tree.specs.Conditions.{IsChange, spoken_names, spoken_paths, put_names, spoken_names_by, spoken_paths_by, put_by, loose_paths_by, kept_paths, loose_paths, PutsOwn, IsLoose}
 use Rattle.tl_tree.specs.declared.change.Part.{Part}
 use Rattle.tl_tree.specs.declared.change.Part.TheVariants as change
-use Rattle.tl_tree.proofs.Distinct.{AreOnce, IsPart, has_name-append, neither_has, has_left, has_right, has_either, once-nil, once-head, once-tail, once-cons, once-left, once-right, once-cross, part-none, part-append, part-flat, part-same, part-nil}
+use Rattle.tl_tree.proofs.Distinct.{AreOnce, IsPart, neither_has, has_left, has_right, once-left, once-right, once-cross, part-append, part-same, part-nil}
 use Rattle.tl_tree.proofs.Entering.{entry_named}
 use Rattle.tl_plan.specs.Plans.{is_any_touching}
 use Rattle.tl_coming.specs.Cuts.{cuts_behind, plan_cuts}
-use Rattle.tl_coming.specs.Made.{stream_of, made_by, made_parts, IsGiven, OwnsListed, AreUnreserved, AreChanges}
+use Rattle.tl_coming.specs.Made.{stream_of, made_by, made_parts, IsGiven, OwnsListed, AreChanges}
 use Rattle.tl_coming.specs.Parts.{part_name, part_entry, entry_at, listed_or_none, files_with, paths_with}
 use Rattle.tl_coming.specs.Planning.{plan_entries}
 use Rattle.tl_coming.specs.Refused.{owned_at, owns_outside, entries_fault}

@@ -1,6 +1,6 @@
 -- Where no path that comes touches another one, each comes once; and what else follows where a plan isn't refused.
-use Rattle.std.proofs.Common.{◌≡◌, ◌≤◌, ◌<◌, ◌+◌, ◌⊎◌, ℕ, Bool, true, false, cond, not, ◌||◌, ◌&&◌, List, [], ◌∷◌, ◌++◌, map, Option, Some, None, Result, Ok, Err, refl, sym, ap, subst, ◌∙◌, arith, inl, inr}
-use Rattle.std.specs.Prelude.{nat_le, find, filter, option_map, OnOk}
+use Rattle.std.proofs.Common.{◌≡◌, ◌≤◌, ◌+◌, Bool, true, false, cond, not, ◌||◌, ◌&&◌, List, [], ◌∷◌, ◌++◌, Option, Some, None, refl, sym, ap, ◌∙◌, arith, inl, inr}
+use Rattle.std.specs.Prelude.{nat_le, find, filter, option_map}
 use Rattle.std.specs.List.{list_any, count_by, flat_map, cons_option, AllByRecursion}
 use Rattle.std.specs.Option.{option_or}
 use Rattle.std.specs.Str.{bytes_eq}
@@ -30,7 +30,7 @@ use Rattle.tl_plan.specs.Removal.{is_among}
 use Rattle.tl_plan.proofs.SetLaws.{any_flat}
 use Rattle.tl_coming.specs.Parts.{listed_or_none, part_entry, paths_with}
 use Rattle.tl_coming.specs.Planning.{plan_entries}
-use Rattle.tl_coming.specs.Refused.{first_of, bad_execute, reserved_path, tree_fault, second_with, clash_at, clash, owns_outside, owned_at, owned_path, entries_fault, coming_fault}
+use Rattle.tl_coming.specs.Refused.{first_of, bad_execute, reserved_path, tree_fault, second_with, clash_at, clash, owned_at, owned_path, entries_fault, coming_fault}
 use Rattle.tl_coming.specs.declared.error.ComingError.{ComingError}
 use Rattle.tl_coming.specs.declared.error.ComingError.TheVariants.{Clash, Owned, Reserved}
 use Rattle.tl_coming.specs.declared.part.PlanPart.{PlanPart}

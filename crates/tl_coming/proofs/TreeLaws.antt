@@ -1,15 +1,15 @@
 -- Calls that ask a tree, one after another, and the names of a tree that are in the way of packages that come.
-use Rattle.std.proofs.Common.{◌≡◌, ◌≤◌, ◌<◌, ◌+◌, ◌⊎◌, ℕ, Bool, true, false, cond, not, ◌||◌, ◌&&◌, List, [], ◌∷◌, ◌++◌, length, Option, Some, None, Result, Ok, Err, refl, sym, ap, subst, ◌∙◌, arith, inl, inr}
+use Rattle.std.proofs.Common.{◌≡◌, ◌≤◌, ◌<◌, ◌+◌, ℕ, Bool, true, false, cond, not, ◌||◌, ◌&&◌, List, [], ◌∷◌, ◌++◌, length, Option, Some, None, Result, Ok, Err, refl, sym, ap, ◌∙◌, arith, inl, inr}
 use Rattle.std.specs.Prelude.{nat_lt, find, filter, option_map, IfErr, OnOk}
 use Rattle.std.specs.List.{list_any, flat_map}
 use Rattle.std.specs.Str.{bytes_eq}
 use Rattle.std.specs.FinMap.{keys}
 use Rattle.std.specs.Cmp.Lexicographic.{nat_list_eq_equiv}
 use Rattle.std.specs.Cmp.{IsEquivalence}
-use Rattle.std.proofs.lemmas.Bool.{cases_Bool, true≢false, lt-ltb, ltb-true}
+use Rattle.std.proofs.lemmas.Bool.{cases_Bool, lt-ltb, ltb-true}
 use Rattle.std.proofs.lemmas.List.Elements.{filter-append}
 use Rattle.std.proofs.lemmas.List.Folds.{list_any-append}
-use Rattle.tl_model.specs.Seen.{Told, Quiet}
+use Rattle.tl_model.specs.Seen.{Told}
 use Rattle.tl_model.specs.Pictures.{quiet_start, quiet_join}
 use Rattle.tl_model.specs.Volume.{Name, Volume, IsNext, same_name, same_name-refl}
 use Rattle.tl_journal_text.specs.Stand.{tree_of}
@@ -23,7 +23,7 @@ use Rattle.tl_tree.specs.Changes.{own}
 use Rattle.tl_tree.specs.Planted.{Planted}
 use Rattle.tl_touch.proofs.Touching.{any_members, any_at}
 use Rattle.tl_touch.proofs.Walks.{HasWalked, walk_step, walk_end, seen_le}
-use Rattle.tl_coming.specs.Asked.{IsAsked, IsCausedBy, Answers, IsFaultOf, IsFree, tree_in, unless_fault}
+use Rattle.tl_coming.specs.Asked.{IsAsked, IsCausedBy, Answers, IsFaultOf, tree_in, unless_fault}
 use Rattle.tl_coming.specs.Refused.{first_of, files_fault, loose_names, occupied_path, standing_fault}
 use Rattle.std.specs.Option.{option_or}
 use Rattle.tl_coming.specs.Refused.{IsWantedFault}

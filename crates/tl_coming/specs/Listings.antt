@@ -1,5 +1,5 @@
 -- What the indexes say of the paths that come and of the files that stay.
-use Rattle.std.specs.Prelude.{◌≡◌, ℕ, ◌||◌, ◌&&◌, not, Bool, true, false, List, filter, Option, None}
+use Rattle.std.specs.Prelude.{◌≡◌, ℕ, ◌||◌, ◌&&◌, not, Bool, true, false, List, filter, None}
 use Rattle.std.specs.List.{list_any, flat_map}
 use Rattle.tl_path.specs.Components.{is_below, is_touching}
 use Rattle.tl_entry.specs.Rising.{has_key}

@@ -1,4 +1,4 @@
-use Rattle.std.proofs.Common.{◌≡◌, ◌++◌, drop, take, map, ℕ, List}
+use Rattle.std.proofs.Common.{◌≡◌, take, map}
 use Rattle.std.specs.List.{flat_map}
 use Rattle.tl_entry.specs.FilePaths.{listed_paths}
 use Rattle.tl_coming.proofs.clashes.paths_of.Given as goal

@@ -1,4 +1,4 @@
-use Rattle.std.proofs.Common.{◌≡◌, ◌++◌, drop, take, map, ℕ, List}
+use Rattle.std.proofs.Common.{◌≡◌, ◌++◌}
 use Rattle.tl_coming.proofs.clashes.push_listed.Given as goal
 
 abbrev pub invariant-loop-path : goal.invariant-loop-path

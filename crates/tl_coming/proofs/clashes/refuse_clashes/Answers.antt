@@ -1,6 +1,4 @@
-use Rattle.std.proofs.Common.{ℕ, List, map, subst, ◌∙◌}
-use Rattle.std.specs.List.{flat_map}
-use Rattle.tl_entry.specs.FilePaths.{listed_paths}
+use Rattle.std.proofs.Common.{ℕ, List, subst, ◌∙◌}
 use Rattle.tl_touch.specs.Listing.{AreListed}
 use Rattle.tl_coming.proofs.ClashLaws.{settled_at, clash_from, fault_first}
 use Rattle.tl_coming.proofs.clashes.refuse_clashes.Goals as goal

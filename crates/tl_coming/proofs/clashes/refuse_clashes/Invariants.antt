@@ -1,4 +1,4 @@
-use Rattle.std.proofs.Common.{◌≡◌, ◌++◌, drop, take, map, ℕ, List}
+use Rattle.std.proofs.Common.{◌≡◌, drop, map}
 use Rattle.tl_coming.specs.Refused.{clash}
 use Rattle.tl_coming.proofs.clashes.refuse_clashes.Given as goal
 

@@ -1,4 +1,4 @@
-use Rattle.std.proofs.Common.{◌≡◌, ◌++◌, drop, take, map, ℕ, List}
+use Rattle.std.proofs.Common.{◌≡◌, drop, map}
 use Rattle.tl_entry.specs.FilePaths.{file_paths}
 use Rattle.tl_coming.specs.Refused.{first_of, clash_at}
 use Rattle.tl_coming.proofs.clashes.refuse_clashes_of.Given as goal

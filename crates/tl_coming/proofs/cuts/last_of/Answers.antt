@@ -1,4 +1,4 @@
-use Rattle.std.proofs.Common.{◌∙◌, List, ℕ, ap, sym, subst, take, drop, arith}
+use Rattle.std.proofs.Common.{◌∙◌, List, ℕ, ap, drop, arith}
 use Rattle.std.specs.List.{flat_map}
 use Rattle.std.proofs.lemmas.List.{take_all}
 use Rattle.tl_plan.specs.Plans.{is_any_touching}

@@ -1,4 +1,4 @@
-use Rattle.std.proofs.Common.{List, [], ◌∷◌, ◌++◌, ◌+◌, cond, ◌∙◌, ap, arith}
+use Rattle.std.proofs.Common.{[], ◌∷◌, ◌++◌, ◌+◌, cond, ◌∙◌, ap, arith}
 use Rattle.std.specs.Prelude.{nat_le}
 use Rattle.tl_coming.specs.declared.part.PlanPart.{PlanPart}
 use Rattle.tl_coming.proofs.CutLaws.{cut_begin, cut_next, cut_done}

@@ -1,4 +1,4 @@
-use Rattle.std.proofs.Common.{◌∙◌, ap, sym, subst, List, ℕ, Option, None, Ok, arith}
+use Rattle.std.proofs.Common.{sym, subst, List, ℕ, Option, None, arith}
 use Rattle.tl_model.specs.Volume.{Volume, IsNext}
 use Rattle.tl_coming.specs.Asked.{tree_in}
 use Rattle.tl_coming.specs.Listings.{is_in_way}

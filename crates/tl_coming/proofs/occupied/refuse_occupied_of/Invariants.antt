@@ -1,4 +1,4 @@
-use Rattle.std.proofs.Common.{◌≡◌, drop, map}
+use Rattle.std.proofs.Common.{◌≡◌, drop}
 use Rattle.std.specs.Prelude.{find, option_map}
 use Rattle.std.specs.List.{list_any}
 use Rattle.tl_path.specs.Components.{is_touching}

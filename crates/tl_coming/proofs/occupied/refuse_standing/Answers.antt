@@ -1,14 +1,11 @@
-use Rattle.std.proofs.Common.{◌≡◌, ◌∙◌, ap, sym, subst, List, ℕ, Option, None, Ok, Err, map}
-use Rattle.std.specs.Prelude.{filter}
+use Rattle.std.proofs.Common.{◌∙◌, ap, List, ℕ, map}
 use Rattle.std.specs.List.{flat_map}
-use Rattle.std.specs.FinMap.{keys}
 use Rattle.tl_entry.specs.Rising.{has_key}
-use Rattle.tl_entry.specs.FilePaths.{listed_paths}
 use Rattle.tl_entry.specs.declared.object.Object.{Object}
 use Rattle.tl_tree.specs.Changes.{own}
 use Rattle.tl_coming.specs.Asked.{tree_in}
-use Rattle.tl_coming.specs.Refused.{first_of, occupied_path, standing_fault}
-use Rattle.tl_coming.proofs.TreeLaws.{standing_is, as_fault_result, as_none_result, never_host_result, names_fault}
+use Rattle.tl_coming.specs.Refused.{first_of, occupied_path}
+use Rattle.tl_coming.proofs.TreeLaws.{standing_is, as_fault_result, as_none_result, never_host_result}
 use Rattle.tl_coming.proofs.occupied.refuse_standing.Goals as goal
 
 pub returns-clause-ok : goal.returns-clause-ok

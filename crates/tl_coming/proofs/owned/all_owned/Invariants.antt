@@ -1,4 +1,4 @@
-use Rattle.std.proofs.Common.{◌≡◌, ◌++◌, drop, take, map, ℕ, List}
+use Rattle.std.proofs.Common.{◌≡◌, ◌++◌}
 use Rattle.std.specs.List.{flat_map}
 use Rattle.tl_tree.specs.Changes.{own}
 use Rattle.tl_coming.proofs.owned.all_owned.Given as goal

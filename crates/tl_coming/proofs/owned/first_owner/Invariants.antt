@@ -1,4 +1,4 @@
-use Rattle.std.proofs.Common.{◌≡◌, ◌++◌, drop, take, map, ℕ, List}
+use Rattle.std.proofs.Common.{◌≡◌}
 use Rattle.std.specs.Prelude.{find, option_map}
 use Rattle.tl_tree.specs.Owners.{name_of}
 use Rattle.tl_coming.specs.Refused.{owns_outside}

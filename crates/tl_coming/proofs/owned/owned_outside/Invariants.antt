@@ -1,4 +1,4 @@
-use Rattle.std.proofs.Common.{◌≡◌, ◌++◌, drop, take, map, ℕ, List}
+use Rattle.std.proofs.Common.{◌≡◌, ◌++◌}
 use Rattle.tl_coming.specs.Listings.{owned_outside}
 use Rattle.tl_coming.proofs.owned.owned_outside.Given as goal
 

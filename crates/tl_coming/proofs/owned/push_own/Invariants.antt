@@ -1,4 +1,4 @@
-use Rattle.std.proofs.Common.{◌≡◌, ◌++◌, drop, take, map, ℕ, List}
+use Rattle.std.proofs.Common.{◌≡◌, ◌++◌}
 use Rattle.tl_coming.proofs.owned.push_own.Given as goal
 
 abbrev pub invariant-loop-file : goal.invariant-loop-file

@@ -1,4 +1,4 @@
-use Rattle.std.proofs.Common.{◌≡◌, ◌++◌, drop, take, map, ℕ, List}
+use Rattle.std.proofs.Common.{◌≡◌, drop}
 use Rattle.tl_coming.specs.Refused.{first_of, owned_at, owned_path}
 use Rattle.tl_coming.proofs.owned.refuse_owned_of.Given as goal
 

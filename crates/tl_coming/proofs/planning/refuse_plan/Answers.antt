@@ -1,6 +1,5 @@
-use Rattle.std.proofs.Common.{◌≡◌, List, ℕ, [], Option, None, ap, sym, subst, ◌∙◌, map}
+use Rattle.std.proofs.Common.{◌≡◌, List, ℕ, [], Option, None, ap, subst, ◌∙◌, map}
 use Rattle.std.specs.Prelude.{IfErr, OnOk}
-use Rattle.tl_entry.specs.declared.object.Object.{Object}
 use Rattle.tl_plan.specs.Removal.{is_among}
 use Rattle.tl_plan.proofs.SetLaws.{among_all}
 use Rattle.tl_coming.specs.Asked.{IsFaultOf, tree_in}
