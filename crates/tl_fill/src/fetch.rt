@@ -13,6 +13,7 @@ use tl_host::Shelf;
 use tl_object::Object;
 
 /// A container that is to be fetched: that of a part of a package of a repository.
+#[derive(Clone, Copy)]
 pub struct Fetch<'a> {
     /// The repository.
     pub repo: &'a Repo,
