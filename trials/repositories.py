@@ -1,6 +1,6 @@
 #!/usr/bin/env python3
 """Tries the proved program over repositories that are real folders: two of them with pins, one that isn't there, is empty, is a file or can't be
-read, a folder or a pipe in a file's place, damaged files, one tag twice, 17 of them, pins and names that no repository has, and a repository
+read, a folder or a pipe in a file's place, which counts as none, damaged files, one tag twice, 17 of them, pins and names that no repository has, and a repository
 as TeX Live's own tools make it. Whatever is refused is told in one line that names the file, and the trees stay as they were. `check files`
 is compared with a plain walk.
 
@@ -76,9 +76,9 @@ ROWS = [
     (with_tug({}), f"T {TWO} info", 1, f"tlmgr: Absent repo=tug name={DATABASE}\n", f"the repository tug has no file {DATABASE}"),
     (with_tug("a file"), f"T {TWO} info", 1, f"tlmgr: Absent repo=tug name={DATABASE}\n", f"the repository tug has no file {DATABASE}"),
     (with_tug({DATABASE: TUG}), f"T {TWO} info", 1, f"tlmgr: Absent repo=tug name={DIGEST}\n", f"the repository tug has no file {DIGEST}"),
-    (with_tug({**repository(TUG), DATABASE: FOLDER}), f"T {TWO} info", 3, "", f"G/{DATABASE}"),
-    (with_tug({**repository(TUG), DIGEST: FOLDER}), f"T {TWO} info", 3, "", f"G/{DIGEST}"),
-    (with_tug({**repository(TUG), DATABASE: PIPE}), f"T {TWO} info", 3, "", f"G/{DATABASE}"),
+    (with_tug({**repository(TUG), DATABASE: FOLDER}), f"T {TWO} info", 1, f"tlmgr: Absent repo=tug name={DATABASE}\n", f"the repository tug has no file {DATABASE}"),
+    (with_tug({**repository(TUG), DIGEST: FOLDER}), f"T {TWO} info", 1, f"tlmgr: Absent repo=tug name={DIGEST}\n", f"the repository tug has no file {DIGEST}"),
+    (with_tug({**repository(TUG), DATABASE: PIPE}), f"T {TWO} info", 1, f"tlmgr: Absent repo=tug name={DATABASE}\n", f"the repository tug has no file {DATABASE}"),
     (with_tug({**repository(TUG), DATABASE: SHUT}), f"T {TWO} info", 3, "", f"G/{DATABASE}"),
     (with_tug({**repository(TUG), DIGEST: ABC + "\n"}), f"T {TWO} info", 1, f"tlmgr: RepoDigest repo=tug want={ABC} got=",
      f"{DATABASE} of the repository tug is not the one"),
@@ -88,7 +88,7 @@ ROWS = [
      f"{DATABASE} of the repository tug, line 2: "),
     (with_tug(repository("")), f"T {TWO} candidates foo", 0, "main r9 *\n", NO_TREE),
     ({**GOOD, "T": {PINS: "tug:foo*\nnonsense\n"}}, f"T {TWO} info", 1, "tlmgr: BadPins line=2\n", f"{PINS}, line 2"),
-    ({**GOOD, "T": {PINS: FOLDER}}, f"T {TWO} info", 3, "", f"T/{PINS}"),
+    ({**GOOD, "T": {PINS: FOLDER}}, f"T {TWO} info", 0, "- foo: \n- foo2: \n", NO_TREE),
     ({**GOOD, "T": {DATABASE: "name a\nrevision x\n"}}, f"T {TWO} info", 1, "tlmgr: BadDatabase line=2 kind=Value\n", f"{DATABASE}, line 2: "),
     (GOOD, "T -repository=tug=M -repository=tug=G info", 2, "tlmgr: BadWords at=2 kind=Value\n", "-repository"),
     (GOOD, "T " + " ".join(f"-repository=t{n}=M" for n in range(17)) + " info", 2, "tlmgr: BadWords at=17 kind=", "-repository"),
