@@ -223,11 +223,11 @@ arrivals_once pins repos replaced entry names =
     (names_part pins repos replaced (order_by entry (rising_of names))).once (order_once entry (rising_of names) (rising_once (rising_of names) (rising-rising_of names)))
 
 -- an installation's plan
-pub install_given : (pins : List PinLine) (repos : List Repo) (db : List Object) (ask : InstallAsk) → AllByRecursion (IsGiven repos) (install_plan pins repos db ask)
-install_given pins repos db ask = all_given pins repos [] (install_names pins repos db ask)
+pub install_given : (pins : List PinLine) (repos : List Repo) (db : List Object) (names : List (List ℕ)) (ask : InstallAsk) → AllByRecursion (IsGiven repos) (install_plan pins repos db names ask)
+install_given pins repos db names ask = all_given pins repos [] (install_names pins repos db names ask)
 
-pub install_once : (pins : List PinLine) (repos : List Repo) (db : List Object) (ask : InstallAsk) → AreOnce (map part_name (install_plan pins repos db ask))
+pub install_once : (pins : List PinLine) (repos : List Repo) (db : List Object) (names : List (List ℕ)) (ask : InstallAsk) → AreOnce (map part_name (install_plan pins repos db names ask))
 unfolding install_names
-install_once pins repos db ask = arrivals_once pins repos [] (view_entry pins repos db)
-    (filter (comes pins repos db (names_again ask))
-    (looked_at ask (view_entry pins repos db) (tree_platforms db) (length (all_named (tree_platforms db) (known_entries repos db)))))
+install_once pins repos db names ask = arrivals_once pins repos [] (view_entry pins repos db)
+    (filter (comes pins repos db (names_again names ask))
+    (looked_at names ask (view_entry pins repos db) (tree_platforms db) (length (all_named (tree_platforms db) (known_entries repos db)))))

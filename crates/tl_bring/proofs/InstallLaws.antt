@@ -149,36 +149,33 @@ comes_alike : (pins : List PinLine) (repos : List Repo) (db : List Object) (agai
 comes_alike pins repos db again names same = fun_ext (λ name. ap (λ t. may_come pins repos db name || (t && is_some (entry_of name db))) (same name))
 
 -- the names that come, by what a walk over a view gathers
-pub names_are : (pins : List PinLine) (repos : List Repo) (db view : List Object) (ask : InstallAsk) (looked again ordered : Texts)
+pub names_are : (pins : List PinLine) (repos : List Repo) (db view : List Object) (names : Texts) (ask : InstallAsk) (looked again ordered : Texts)
     → ((name : List ℕ) → entry_of name view ≡ view_entry pins repos db name)
-    → ((count : ℕ) → IsEnough view (tree_platforms db) count → (name : List ℕ) → is_among name looked ≡ is_among name (looked_at ask (λ n. entry_of n view) (tree_platforms db) count))
-    → again ≡ insert_all bytes_eq [] (names_again ask)
-    → IsInstallOrder view (insert_all bytes_eq [] (filter (comes pins repos db again) looked)) ordered → ordered ≡ install_names pins repos db ask
+    → ((count : ℕ) → IsEnough view (tree_platforms db) count → (name : List ℕ) → is_among name looked ≡ is_among name (looked_at names ask (λ n. entry_of n view) (tree_platforms db) count))
+    → again ≡ insert_all bytes_eq [] (names_again names ask)
+    → IsInstallOrder view (insert_all bytes_eq [] (filter (comes pins repos db again) looked)) ordered → ordered ≡ install_names pins repos db names ask
 unfolding install_names
-names_are pins repos db view ask looked again ordered at looks same is =
+names_are pins repos db view names ask looked again ordered at looks same is =
     let platforms : Texts = tree_platforms db in
     let count : ℕ = length (all_named platforms (known_entries repos db)) in
     let entries : (λ n. entry_of n view) ≡ view_entry pins repos db = fun_ext at in
-    let test : comes pins repos db again ≡ comes pins repos db (names_again ask) = comes_alike pins repos db again (names_again ask) (λ name. ap (is_among name) same ∙ among_all name [] (names_again ask)) in
+    let test : comes pins repos db again ≡ comes pins repos db (names_again names ask) = comes_alike pins repos db again (names_again names ask) (λ name. ap (is_among name) same ∙ among_all name [] (names_again names ask)) in
     order_is view (filter (comes pins repos db again) looked) ordered is
     ∙ ap (λ (p : List ℕ → Bool). order_by (λ n. entry_of n view) (rising_of (filter p looked))) test
-    ∙ ap (order_by (λ n. entry_of n view)) (passing_alike (comes pins repos db (names_again ask)) looked (looked_at ask (λ n. entry_of n view) platforms count)
+    ∙ ap (order_by (λ n. entry_of n view)) (passing_alike (comes pins repos db (names_again names ask)) looked (looked_at names ask (λ n. entry_of n view) platforms count)
     (looks count (enough pins repos db view platforms at)))
-    ∙ ap (λ (entry : List ℕ → Option Object). order_by entry (rising_of (filter (comes pins repos db (names_again ask)) (looked_at ask entry platforms count)))) entries
+    ∙ ap (λ (entry : List ℕ → Option Object). order_by entry (rising_of (filter (comes pins repos db (names_again names ask)) (looked_at names ask entry platforms count)))) entries
 
 -- names that are gathered after others
 pub gathered_onto : (keys some more : Texts) → insert_all bytes_eq keys (some ++ more) ≡ insert_all bytes_eq (insert_all bytes_eq keys some) more
 gathered_onto keys some more = all_onto keys some more
 
 -- the names of a walk are those that are looked at, whichever number of depends is enough
-abbrev pub Looks : InstallAsk → List Object → Texts → Texts → Type 0
-Looks ask view platforms keys =
-    (count : ℕ) → IsEnough view platforms count → (name : List ℕ) → is_among name keys ≡ is_among name (looked_at ask (λ n. entry_of n view) platforms count)
+abbrev pub Looks : Texts → InstallAsk → List Object → Texts → Texts → Type 0
+Looks names ask view platforms keys =
+    (count : ℕ) → IsEnough view platforms count → (name : List ℕ) → is_among name keys ≡ is_among name (looked_at names ask (λ n. entry_of n view) platforms count)
 
-module _ (ask : InstallAsk) (view : List Object) (platforms : Texts) where
-  abbrev names : Texts
-  names = ask.names.items
-
+module _ (names : Texts) (ask : InstallAsk) (view : List Object) (platforms : Texts) where
   abbrev parts : Texts
   parts = parts_in (λ n. entry_of n view) platforms names
 
@@ -189,19 +186,19 @@ module _ (ask : InstallAsk) (view : List Object) (platforms : Texts) where
   chosen with_parts with_depends count = cond (not with_parts) names (cond (not with_depends) (names ++ parts) (reached count))
 
   -- without parts
-  pub alone_looked : (keys : Texts) → ask.parts ≡ false → keys ≡ insert_all bytes_eq [] names → Looks ask view platforms keys
+  pub alone_looked : (keys : Texts) → ask.parts ≡ false → keys ≡ insert_all bytes_eq [] names → Looks names ask view platforms keys
   alone_looked keys off is count enough name =
       ap (is_among name) is ∙ among_all name [] names ∙ sym (ap (λ t. is_among name (chosen t ask.depends count)) off)
 
   -- without depends
-  pub parts_looked : (keys : Texts) → ask.parts ≡ true → ask.depends ≡ false → keys ≡ insert_all bytes_eq (insert_all bytes_eq [] names) parts → Looks ask view platforms keys
+  pub parts_looked : (keys : Texts) → ask.parts ≡ true → ask.depends ≡ false → keys ≡ insert_all bytes_eq (insert_all bytes_eq [] names) parts → Looks names ask view platforms keys
   parts_looked keys on off is count enough name =
       ap (is_among name) is ∙ among_all name (insert_all bytes_eq [] names) parts ∙ ap (λ t. t || is_among name parts) (among_all name [] names)
       ∙ sym (list_any-append (bytes_eq name) names parts)
       ∙ sym (ap (λ t. is_among name (chosen t ask.depends count)) on ∙ ap (λ t. is_among name (chosen true t count)) off)
 
   -- with both
-  pub reach_looked : (keys : Texts) → ask.parts ≡ true → ask.depends ≡ true → ((name : List ℕ) → IsTrue (is_among name keys) ↔ IsReached view platforms names name) → Looks ask view platforms keys
+  pub reach_looked : (keys : Texts) → ask.parts ≡ true → ask.depends ≡ true → ((name : List ℕ) → IsTrue (is_among name keys) ↔ IsReached view platforms names name) → Looks names ask view platforms keys
   reach_looked keys on all means count enough name =
       reached_at view platforms count enough names name (is_among name keys) (means name)
       ∙ sym (ap (λ t. is_among name (chosen t ask.depends count)) on ∙ ap (λ t. is_among name (chosen true t count)) all)

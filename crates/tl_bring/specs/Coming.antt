@@ -33,8 +33,8 @@ abbrev pub may_come : List PinLine → List Repo → List Object → List ℕ �
 may_come pins repos db name = not (is_protected name) && (is_some (candidate_of pins repos name) && not (is_some (entry_of name db)))
 
 -- the names whose packages may come again
-abbrev pub names_again : InstallAsk → List (List ℕ)
-names_again ask = if ask.reinstall then ask.names.items else []
+abbrev pub names_again : List (List ℕ) → InstallAsk → List (List ℕ)
+names_again names ask = if ask.reinstall then names else []
 
 -- whether a package comes, where those of some names may come again if they are installed
 abbrev pub comes : List PinLine → List Repo → List Object → List (List ℕ) → List ℕ → Bool
@@ -51,11 +51,11 @@ parts_in entry platforms names = flat_map (λ name. parts_or_none platforms (ent
 
 -- the names that are looked at, by what gives the entry of a name: what the asked ones reach by so many depends, one after another;
 -- without depends they and their binary parts; without parts they alone
-abbrev pub looked_at : InstallAsk → (List ℕ → Option Object) → List (List ℕ) → ℕ → List (List ℕ)
-looked_at ask entry platforms count =
-    if not ask.parts then ask.names.items
-    else (if not ask.depends then ask.names.items ++ parts_in entry platforms ask.names.items
-    else reached_by count (λ name. named_of platforms (entry name)) ask.names.items)
+abbrev pub looked_at : List (List ℕ) → InstallAsk → (List ℕ → Option Object) → List (List ℕ) → ℕ → List (List ℕ)
+looked_at names ask entry platforms count =
+    if not ask.parts then names
+    else (if not ask.depends then names ++ parts_in entry platforms names
+    else reached_by count (λ name. named_of platforms (entry name)) names)
 
 -- so many names there are for which depends stand on some platforms of the entries that are found by their names in a view
 pub record IsEnough (view : List Object) (platforms : List (List ℕ)) (count : ℕ) : Type 0 where
@@ -64,8 +64,8 @@ pub record IsEnough (view : List Object) (platforms : List (List ℕ)) (count : 
   pub within : (name other : List ℕ) → is_among other (named_of platforms (entry_of name view)) ≡ true → is_among other all ≡ true
 
 -- the names of the packages that come, in the order in which they are installed
-unfoldable pub install_names : List PinLine → List Repo → List Object → InstallAsk → List (List ℕ)
-install_names pins repos db ask =
+unfoldable pub install_names : List PinLine → List Repo → List Object → List (List ℕ) → InstallAsk → List (List ℕ)
+install_names pins repos db names ask =
     let platforms = tree_platforms db in
-    let looked = looked_at ask (view_entry pins repos db) platforms (length (all_named platforms (known_entries repos db))) in
-    order_by (view_entry pins repos db) (rising_of (filter (comes pins repos db (names_again ask)) looked))
+    let looked = looked_at names ask (view_entry pins repos db) platforms (length (all_named platforms (known_entries repos db))) in
+    order_by (view_entry pins repos db) (rising_of (filter (comes pins repos db (names_again names ask)) looked))

@@ -44,11 +44,11 @@ abbrev pub install_fault : List PinLine → List Repo → List (List ℕ) → Op
 install_fault pins repos asked = option_or (asked_protected asked) (asked_unknown pins repos asked)
 
 -- the parts of an installation's plan; none of the packages comes in the place of another
-abbrev pub install_plan : List PinLine → List Repo → List Object → InstallAsk → List PlanPart
-install_plan pins repos db ask = arrivals pins repos [] (install_names pins repos db ask)
+abbrev pub install_plan : List PinLine → List Repo → List Object → List (List ℕ) → InstallAsk → List PlanPart
+install_plan pins repos db names ask = arrivals pins repos [] (install_names pins repos db names ask)
 
 -- the steps in which packages are installed where these are asked to be, over a tree with these entries; or the first refusal
-abbrev pub install_of : List PinLine → List Repo → List Object → Volume → InstallAsk → Result (List (List PlanPart)) ComingError
-install_of pins repos db tree ask =
-    let plan = install_plan pins repos db ask in
-    unless_fault (option_or (install_fault pins repos ask.names.items) (plan_fault repos db tree plan)) (plan_cuts repos db plan)
+abbrev pub install_of : List PinLine → List Repo → List Object → Volume → List (List ℕ) → InstallAsk → Result (List (List PlanPart)) ComingError
+install_of pins repos db tree names ask =
+    let plan = install_plan pins repos db names ask in
+    unless_fault (option_or (install_fault pins repos names) (plan_fault repos db tree plan)) (plan_cuts repos db plan)

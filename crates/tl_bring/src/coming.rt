@@ -16,11 +16,9 @@ use tl_path::Name;
 use tl_pin::{Pins, candidate, view};
 use tl_plan::{add_parts, is_protected, name_set, tree_platforms};
 
-/// What an installation is asked.
-#[derive(Drop)]
+/// How packages are asked to come.
+#[derive(Clone, Copy)]
 pub struct InstallAsk {
-    /// The packages.
-    pub names: Vec<Name>,
     /// Whether what they depend on comes too.
     pub depends: bool,
     /// Whether their binary parts come too. Without them nothing comes that they depend on.
@@ -67,29 +65,34 @@ pub fn with_parts(
 // The names that are looked at.
 fn looked_at(
     alloc: Global,
+    names: &[Name],
     ask: &InstallAsk,
     view: &Db,
     platforms: &[Vec<u8>],
 ) -> Result<IndexSet<Name>, AllocError>
     ensures { IfOk result (λ looked. (count : ℕ) → IsEnough view.now (map (λ platform. platform.items) platforms.now) count
         → (name : List ℕ) → is_among name looked.keys
-        ≡ is_among name (looked_at ask.now (λ n. entry_of n view.now) (map (λ platform. platform.items) platforms.now) count)) }
+        ≡ is_among name (looked_at names.now ask.now (λ n. entry_of n view.now) (map (λ platform. platform.items) platforms.now) count)) }
 {
     if !ask.parts {
-        return name_set(alloc, &ask.names);
+        return name_set(alloc, names);
     }
     if !ask.depends {
-        return with_parts(alloc, view, &ask.names, platforms);
+        return with_parts(alloc, view, names, platforms);
     }
-    needs(alloc, view, &ask.names, platforms)
+    needs(alloc, view, names, platforms)
 }
 
 // The names whose packages may come again.
-fn names_again(alloc: Global, ask: &InstallAsk) -> Result<IndexSet<Name>, AllocError>
-    ensures { IfOk result (λ again. again.keys ≡ insert_all bytes_eq [] (names_again ask.now)) }
+fn names_again(
+    alloc: Global,
+    names: &[Name],
+    ask: &InstallAsk,
+) -> Result<IndexSet<Name>, AllocError>
+    ensures { IfOk result (λ again. again.keys ≡ insert_all bytes_eq [] (names_again names.now ask.now)) }
 {
     if ask.reinstall {
-        name_set(alloc, &ask.names)
+        name_set(alloc, names)
     } else {
         Ok(IndexSet::new(alloc))
     }
@@ -155,15 +158,16 @@ pub fn install_names(
     pins: &Pins,
     repos: &[Repo],
     db: &Db,
+    names: &[Name],
     ask: &InstallAsk,
 ) -> Result<Vec<Name>, AllocError>
     requires { length repos.now ≤ 16 }
-    ensures { IfOk result (λ names. names.items ≡ install_names pins.now repos.now db.now ask.now) }
+    ensures { IfOk result (λ coming. coming.items ≡ install_names pins.now repos.now db.now names.now ask.now) }
 {
     let view = view(alloc, pins, repos, db)?;
     let platforms = tree_platforms(alloc, db)?;
-    let looked = looked_at(alloc, ask, &view, &platforms)?;
-    let again = names_again(alloc, ask)?;
-    let names = coming_among(alloc, pins, repos, db, &again, &looked)?;
-    order(alloc, &view, &names)
+    let looked = looked_at(alloc, names, ask, &view, &platforms)?;
+    let again = names_again(alloc, names, ask)?;
+    let coming = coming_among(alloc, pins, repos, db, &again, &looked)?;
+    order(alloc, &view, &coming)
 }

@@ -33,14 +33,15 @@ fn install_plan(
     pins: &Pins,
     repos: &[Repo],
     db: &Db,
+    names: &[Name],
     ask: &InstallAsk,
 ) -> Result<Vec<PlanPart>, AllocError>
     requires { length repos.now ≤ 16 }
-    ensures { IfOk result (λ plan. plan.items ≡ install_plan pins.now repos.now db.now ask.now) }
+    ensures { IfOk result (λ plan. plan.items ≡ install_plan pins.now repos.now db.now names.now ask.now) }
 {
-    let names = install_names(alloc, pins, repos, db, ask)?;
+    let coming = install_names(alloc, pins, repos, db, names, ask)?;
     let mut plan = Vec::new(alloc);
-    push_arrivals(pins, repos, &Db::new(alloc), &names, &mut plan)?;
+    push_arrivals(pins, repos, &Db::new(alloc), &coming, &mut plan)?;
     Ok(plan)
 }
 
@@ -50,16 +51,17 @@ fn install_steps<H: Host>(
     tree: &mut Tree<H>,
     pins: &Pins,
     repos: &[Repo],
+    names: &[Name],
     ask: &InstallAsk,
 ) -> Result<Vec<PlanStep>, ComingError>
     requires { length repos.now ≤ 16 }
     ensures plan { Told H.tells (Answers (λ steps. steps.items) result
-        (plan_or_fault repos.now tree.old.db (tree_in tree.old) (install_plan pins.now repos.now tree.old.db ask.now))) }
+        (plan_or_fault repos.now tree.old.db (tree_in tree.old) (install_plan pins.now repos.now tree.old.db names.now ask.now))) }
     ensures changes { IfOk result (λ steps. AreChanges repos.now tree.old.db steps.items) }
     ensures asked { IsAsked H.tells tree.old tree.new }
     ensures cause { IfErr result (IsCausedBy tree.old tree.new) }
 {
-    let plan = install_plan(alloc, pins, repos, tree.db(), ask)?;
+    let plan = install_plan(alloc, pins, repos, tree.db(), names, ask)?;
     make_plan(alloc, tree, repos, plan)
 }
 
@@ -76,16 +78,17 @@ pub fn plan_install<H: Host>(
     tree: &mut Tree<H>,
     pins: &Pins,
     repos: &[Repo],
+    names: &[Name],
     ask: &InstallAsk,
 ) -> Result<Vec<PlanStep>, ComingError>
     requires { length repos.now ≤ 16 }
-    ensures plan { Told H.tells (Answers (λ steps. steps.items) result (install_of pins.now repos.now tree.old.db (tree_in tree.old) ask.now)) }
+    ensures plan { Told H.tells (Answers (λ steps. steps.items) result (install_of pins.now repos.now tree.old.db (tree_in tree.old) names.now ask.now)) }
     ensures changes { IfOk result (λ steps. AreChanges repos.now tree.old.db steps.items) }
     ensures asked { IsAsked H.tells tree.old tree.new }
     ensures cause { IfErr result (IsCausedBy tree.old tree.new) }
 {
-    match refuse_asked(pins, repos, &ask.names) {
-        Ok(()) => install_steps(alloc, tree, pins, repos, ask),
+    match refuse_asked(pins, repos, names) {
+        Ok(()) => install_steps(alloc, tree, pins, repos, names, ask),
         Err(fault) => Err(fault),
     }
 }

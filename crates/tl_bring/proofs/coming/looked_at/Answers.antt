@@ -13,8 +13,8 @@ use Rattle.tl_bring.proofs.coming.looked_at.Goals as goal
 pub returns-then-not-ask : goal.returns-then-not-ask
 returns-then-not-ask c =
     let platforms : List (List ℕ) = map (λ platform. platform.items) c.args.platforms.now in
-    ok_weaker c.name_set.result (λ set. set.keys ≡ insert_all bytes_eq [] c.deref.result.now) (λ set. Looks c.args.ask.now c.args.view.now platforms set.keys)
-    (λ set is. alone_looked c.args.ask.now c.args.view.now platforms set.keys c.if-not-ask.true (is ∙ ap (insert_all bytes_eq []) c.deref.ensures.value))
+    ok_weaker c.name_set.result (λ set. set.keys ≡ insert_all bytes_eq [] c.args.names.now) (λ set. Looks c.args.names.now c.args.ask.now c.args.view.now platforms set.keys)
+    (λ set is. alone_looked c.args.names.now c.args.ask.now c.args.view.now platforms set.keys c.if-not-ask.true is)
     c.name_set.ensures
 
 pub returns-then-not-ask-2 : goal.returns-then-not-ask-2
@@ -22,15 +22,14 @@ returns-then-not-ask-2 c =
     let platforms : List (List ℕ) = map (λ platform. platform.items) c.args.platforms.now in
     let gathered : List (List ℕ) → List (List ℕ) =
     λ names. insert_all bytes_eq (insert_all bytes_eq [] names) (parts_in (λ n. entry_of n c.args.view.now) platforms names) in
-    ok_weaker c.with_parts.result (λ set. set.keys ≡ gathered c.deref-then-not-ask-2.result.now) (λ set. Looks c.args.ask.now c.args.view.now platforms set.keys)
-    (λ set is. parts_looked c.args.ask.now c.args.view.now platforms set.keys c.if-not-ask.false c.if-not-ask-2.true (is ∙ ap gathered c.deref-then-not-ask-2.ensures.value))
+    ok_weaker c.with_parts.result (λ set. set.keys ≡ gathered c.args.names.now) (λ set. Looks c.args.names.now c.args.ask.now c.args.view.now platforms set.keys)
+    (λ set is. parts_looked c.args.names.now c.args.ask.now c.args.view.now platforms set.keys c.if-not-ask.false c.if-not-ask-2.true is)
     c.with_parts.ensures
 
 pub returns : goal.returns
 returns c =
     let platforms : List (List ℕ) = map (λ platform. platform.items) c.args.platforms.now in
-    ok_weaker c.needs.result (λ set. (name : List ℕ) → IsTrue (is_among name set.keys) ↔ IsReached c.args.view.now platforms c.deref-2.result.now name)
-    (λ set. Looks c.args.ask.now c.args.view.now platforms set.keys)
-    (λ set is. reach_looked c.args.ask.now c.args.view.now platforms set.keys c.if-not-ask.false c.if-not-ask-2.false
-    (subst (λ (roots : List (List ℕ)). (name : List ℕ) → IsTrue (is_among name set.keys) ↔ IsReached c.args.view.now platforms roots name) c.deref-2.ensures.value is))
+    ok_weaker c.needs.result (λ set. (name : List ℕ) → IsTrue (is_among name set.keys) ↔ IsReached c.args.view.now platforms c.args.names.now name)
+    (λ set. Looks c.args.names.now c.args.ask.now c.args.view.now platforms set.keys)
+    (λ set is. reach_looked c.args.names.now c.args.ask.now c.args.view.now platforms set.keys c.if-not-ask.false c.if-not-ask-2.false is)
     c.needs.ensures

@@ -12,13 +12,13 @@ use Rattle.tl_bring.proofs.ArrivalLaws.{install_given, install_once}
 use Rattle.tl_bring.proofs.installing.install_steps.Goals as goal
 
 pub make_plan-requires-clause-named : goal.make_plan-requires-clause-named
-make_plan-requires-clause-named g c = subst (λ (plan : List PlanPart). AreOnce (map part_name plan)) (sym c.in_ok-plan.ensures) (install_once c.args.pins.now c.args.repos.now c.db.result.now c.args.ask.now)
+make_plan-requires-clause-named g c = subst (λ (plan : List PlanPart). AreOnce (map part_name plan)) (sym c.in_ok-plan.ensures) (install_once c.args.pins.now c.args.repos.now c.db.result.now c.args.names.now c.args.ask.now)
 
 pub make_plan-requires-clause-given : goal.make_plan-requires-clause-given
-make_plan-requires-clause-given g c = subst (λ (plan : List PlanPart). AllByRecursion (IsGiven c.args.repos.now) plan) (sym c.in_ok-plan.ensures) (install_given c.args.pins.now c.args.repos.now c.db.result.now c.args.ask.now)
+make_plan-requires-clause-given g c = subst (λ (plan : List PlanPart). AllByRecursion (IsGiven c.args.repos.now) plan) (sym c.in_ok-plan.ensures) (install_given c.args.pins.now c.args.repos.now c.db.result.now c.args.names.now c.args.ask.now)
 
 pub returns-clause-plan : goal.returns-clause-plan
 returns-clause-plan g c t =
     subst (Answers (λ steps. steps.items) c.make_plan.result)
-    (ap (plan_or_fault c.args.repos.now c.args.tree.now.db (tree_in c.args.tree.now)) (c.in_ok-plan.ensures ∙ ap (λ (db : List Object). install_plan c.args.pins.now c.args.repos.now db c.args.ask.now) c.db.ensures))
+    (ap (plan_or_fault c.args.repos.now c.args.tree.now.db (tree_in c.args.tree.now)) (c.in_ok-plan.ensures ∙ ap (λ (db : List Object). install_plan c.args.pins.now c.args.repos.now db c.args.names.now c.args.ask.now) c.db.ensures))
     (c.make_plan.ensures.plan t)

@@ -14,16 +14,16 @@ pub returns-in-Ok-clause-plan : goal.returns-in-Ok-clause-plan
 returns-in-Ok-clause-plan g c t =
     let repos = c.args.repos.now in
     let db = c.args.tree.now.db in
-    let plan = install_plan c.args.pins.now repos db c.args.ask.now in
+    let plan = install_plan c.args.pins.now repos db c.args.names.now c.args.ask.now in
     subst (Answers (λ steps. steps.items) c.install_steps.result)
     (ap (λ (w : Option ComingError). unless_fault (option_or w (plan_fault repos db (tree_in c.args.tree.now) plan)) (plan_cuts repos db plan))
-    (sym (ap (install_fault c.args.pins.now repos) (sym c.deref.ensures.value) ∙ c.in-Ok.ensures.ok)))
+    (sym c.in-Ok.ensures.ok))
     (c.install_steps.ensures.plan t)
 
 pub returns-in-Err-clause-plan : goal.returns-in-Err-clause-plan
 returns-in-Err-clause-plan g c t =
-    wanted_answers (λ (steps : Vec (List PlanPart) Global). steps.items) (install_fault c.args.pins.now c.args.repos.now c.args.ask.now.names.items) _ _ c.in-Err.fault
-    (subst (λ (names : List (List _)). IsWantedFault (install_fault c.args.pins.now c.args.repos.now names) c.in-Err.fault) c.deref.ensures.value c.in-Err.ensures.fault)
+    wanted_answers (λ (steps : Vec (List PlanPart) Global). steps.items) (install_fault c.args.pins.now c.args.repos.now c.args.names.now) _ _ c.in-Err.fault
+    c.in-Err.ensures.fault
 
 pub returns-in-Err-clause-cause : goal.returns-in-Err-clause-cause
 returns-in-Err-clause-cause g c = never_host _ c.in-Err.fault c.args.tree.now c.args.tree.now c.in-Err.ensures.fault
