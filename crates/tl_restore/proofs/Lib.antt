@@ -1,2 +1,6 @@
+pub mod EndLaws
+pub mod EntryNames
+pub mod Labels
 pub mod Lines
-pub mod Restoring
+pub mod PutLaws
+pub mod ReadLaws

@@ -1,30 +1,23 @@
 -- The lines that say backups.
 use Rattle.std.proofs.Common.{◌≡◌, ◌&&◌, ◌==◌, ◌+◌, ◌<◌, ◌^◌, ℕ, suc, Bool, true, false, cond, not, nat_le, nat_lt, List, [], ◌∷◌, ◌++◌, length, take, get_or, nat_eq, refl, sym, ap, subst, ◌∙◌, arith}
-use Rattle.std.specs.Prelude.{IfOk, IfSome, Option, Some, None, Result, Ok, Err, codes, slice_index}
+use Rattle.std.specs.Prelude.{IfOk, IfSome, Result, Ok, Err, codes, slice_index}
 use Rattle.std.specs.Char.{is_ascii_digit}
 use Rattle.std.specs.List.{before_first, list_all, position_or_len}
 use Rattle.std.proofs.lemmas.Bool.{and_parts, and_right, eqb-true, true≢false}
 use Rattle.std.proofs.lemmas.List.{flat_map_more, take_more}
 use Rattle.tl_model.specs.Acks.{IsPlain, is_ack, plain-append, plain-line, plain-nil}
 use Rattle.tl_model.specs.Decimal.{decimal_text, is_decimal}
-use Rattle.tl_model.specs.Volume.{Name, Volume}
 use Rattle.tl_path.specs.Bytes.{is_letter_or_digit, is_of_name}
 use Rattle.tl_path.specs.Names.{is_name}
 use Rattle.tl_object.proofs.PlainLemmas.{line_append, line_of_number, line_tested}
 use Rattle.tl_refusal.proofs.Plain.{line_of_name}
-use Rattle.tl_entry.specs.declared.object.Object.{Object}
-use Rattle.tl_tree.specs.Planted.{database_text}
 use Rattle.tl_backup.specs.Asked.{Answers}
-use Rattle.tl_backup.specs.Listed.{listed}
-use Rattle.tl_refusal.specs.declared.refusal.Refusal.TheVariants.{Protected}
-use Rattle.tl_backups.specs.Backing.{is_own_name}
 use Rattle.tl_backup.specs.declared.error.BackupError.{BackupError}
 use Rattle.tl_backup.specs.declared.error.BackupError.TheVariants as faults
 use Rattle.tl_backup.specs.declared.names.Backup.{Backup}
-use Rattle.tl_command.specs.Runs.{AreLabelled, over_database, refused}
-use Rattle.tl_command.proofs.Limits.{labelled-over}
-use Rattle.tl_backups.specs.Faults.{faulted, refusal_of}
-use Rattle.tl_restore.specs.Listing.{backup_line, backup_lines, listing_run, said_backups}
+use Rattle.tl_command.specs.Runs.{refused}
+use Rattle.tl_backups.specs.Faults.{refusal_of}
+use Rattle.tl_restore.specs.Listing.{backup_line, backup_lines, said_backups}
 
 and_false : (b : Bool) → (b && false) ≡ false
 and_false true = refl
@@ -101,26 +94,3 @@ listing_refused faults.NoMemory given is = tt
 pub plain_made : {V E : Type 0} (bytes : V → List ℕ) (made : Result V E) (text : List ℕ) → IfOk made (λ v. bytes v ≡ text) → IsPlain (text ++ 10 ∷ []) → IfOk made (λ v. IsPlain (bytes v ++ 10 ∷ []))
 plain_made bytes (Ok v) text is plain = subst (λ (l : List ℕ). IsPlain (l ++ 10 ∷ [])) (sym is) plain
 plain_made bytes (Err e) text is plain = tt
-
-labelled-faulted : (fault : BackupError) → AreLabelled (faulted fault).events
-labelled-faulted (faults.NotInstalled name) = tt
-labelled-faulted (faults.FileMissing path) = tt
-labelled-faulted (faults.TooLarge what limit) = tt
-labelled-faulted faults.HostFault = tt
-labelled-faulted faults.NoMemory = tt
-
-labelled-said : (found : Result (List Backup) BackupError) → AreLabelled (said_backups found).events
-labelled-said (Ok backups) = tt
-labelled-said (Err fault) = labelled-faulted fault
-
--- a run that says backups makes no step
-labelled-named : (name : Option Name) (tree : Volume) (db : List Object) → AreLabelled (listing_run name tree db).events
-labelled-named None tree db = labelled-said (listed None tree)
-labelled-named (Some name) tree db = by (is_own_name name)
-  where
-    by : (own : Bool) → let run = cond own (refused (Protected name)) (said_backups (listed (Some name) tree)) in AreLabelled run.events
-    by true = tt
-    by false = labelled-said (listed (Some name) tree)
-
-pub labelled-listing : (name : Option Name) (tree : Volume) → AreLabelled (over_database (listing_run name tree) (database_text tree)).events
-labelled-listing name tree = labelled-over (listing_run name tree) (database_text tree) (λ db. labelled-named name tree db)

@@ -1,8 +1,10 @@
 //! `restore`: which backups there are, and a package that is brought back from one.
 #![tactic(auto)]
 
+mod faults;
 mod listing;
 mod reading;
+mod restoring;
+mod returning;
 
-pub use listing::list_backups;
-pub use reading::{RestoreError, Restored, read_backup};
+pub use restoring::restore;

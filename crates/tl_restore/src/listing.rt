@@ -5,29 +5,21 @@ ghost use Rattle.tl_model.specs.Acks.{IsPlain};
 ghost use Rattle.tl_model.specs.Seen.{Told};
 ghost use Rattle.tl_model.specs.Volume.{Volume};
 ghost use Rattle.tl_journal_text.specs.Stand.{stand};
-ghost use Rattle.tl_tree.specs.Planted.{Planted, database_text};
+ghost use Rattle.tl_tree.specs.Planted.{Planted};
 ghost use Rattle.tl_backup.specs.Asked.{IsAsked};
 ghost use Rattle.tl_command.specs.Endings.{no_devices};
 ghost use Rattle.tl_command.specs.Performs.{Performs};
-ghost use Rattle.tl_command.specs.Runs.{Run, over_database, saying};
-ghost use Rattle.tl_backups.specs.Backing.{is_own_name};
-ghost use Rattle.tl_restore.specs.Listing.{backup_line, backup_lines, listing_run, said_backups};
+ghost use Rattle.tl_command.specs.Runs.{Run, saying};
+ghost use Rattle.tl_restore.specs.Listing.{backup_line, backup_lines, said_backups};
 ghost use Rattle.tl_backup.specs.Listed.{listed};
 
 use std::alloc::{AllocError, Global};
 use tl_backup::{Backup, list};
 use tl_backups::{fault_ends, give_up_asked};
-use tl_command::{Acted, Refusal, Session, give_up, load, refuse, say};
+use tl_command::{Acted, Session, say};
 use tl_host::Host;
 use tl_path::Name;
 use tl_tree::Tree;
-
-/// Whether a name is one of the program's own entries.
-pub(crate) fn is_own_name(name: &Name) -> bool
-    ensures { result ≡ is_own_name name.now }
-{
-    name.bytes().starts_with(b"00texlive")
-}
 
 // Says a text, and ends with a command that was carried out, which says it so over the tree before these calls. No memory.
 fn say_asked<H: Host>(bytes: &[u8], tree: Tree<H>) -> Acted<H>
@@ -83,8 +75,9 @@ fn say_lines<H: Host>(alloc: Global, backups: &[Backup], tree: Tree<H>) -> Acted
     }
 }
 
-// Says the backups of a package, or of any.
-fn list_from<H: Host>(alloc: Global, name: Option<&Name>, tree: Tree<H>) -> Acted<H>
+/// Says a line for each backup of a package, or of any, by name and then by revision. `TooLarge` of `Files` where the tree has more names
+/// than that limit.
+pub(crate) fn say_backups<H: Host>(alloc: Global, name: Option<&Name>, tree: Tree<H>) -> Acted<H>
     ensures { Performs H.tells H.seen (λ t. said_backups (listed (option_copied name.entry) t))
         0 tree.seen no_devices no_devices result.ending result.state }
 {
@@ -93,44 +86,5 @@ fn list_from<H: Host>(alloc: Global, name: Option<&Name>, tree: Tree<H>) -> Acte
     match list(alloc, &mut tree, name) {
         Ok(backups) => say_lines(alloc, &backups, tree),
         Err(fault) => fault_ends(alloc, fault, tree),
-    }
-}
-
-// Says the backups of a package that isn't one of the program's own entries.
-fn list_named<H: Host>(alloc: Global, name: &Name, tree: Tree<H>) -> Acted<H>
-    ensures { Performs H.tells H.seen (λ t. listing_run (Some name.now) t tree.db)
-        0 tree.seen no_devices no_devices result.ending result.state }
-{
-    if !is_own_name(name) {
-        return list_from(alloc, Some(name), tree);
-    }
-    match name.clone() {
-        Ok(name) => refuse(alloc, Refusal::Protected { name }, Session::of_tree(tree)),
-        Err(_) => give_up(Session::of_tree(tree)),
-    }
-}
-
-// Says the backups of a tree.
-fn list_tree<H: Host>(alloc: Global, name: Option<&Name>, tree: Tree<H>) -> Acted<H>
-    ensures { Performs H.tells H.seen (λ t. listing_run (option_copied name.entry) t tree.db)
-        0 tree.seen no_devices no_devices result.ending result.state }
-{
-    match name {
-        Some(name) => list_named(alloc, name, tree),
-        None => list_from(alloc, None, tree),
-    }
-}
-
-/// Carries `restore` without a revision out: says a line for each backup of a package, or of any, by name and then by revision.
-///
-/// `Protected` where the name is one of the program's own entries; then `TooLarge` of `Files` where the tree has more names than that
-/// limit.
-pub fn list_backups<H: Host>(alloc: Global, name: Option<&Name>, session: Session<H>) -> Acted<H>
-    ensures { Performs H.tells H.seen (λ tree. over_database (listing_run (option_copied name.entry) tree) (database_text tree))
-        0 session no_devices no_devices result.ending result.state }
-{
-    match load(alloc, session) {
-        Ok(tree) => list_tree(alloc, name, tree),
-        Err(acted) => acted,
     }
 }

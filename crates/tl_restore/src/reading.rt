@@ -1,5 +1,5 @@
 //! What a backup brings back: the entry and the files that its frame holds.
-ghost use Rattle.std.specs.Prelude.{◌≡◌, ◌<◌, ◌^◌, ◌∷◌, [], length, map, IfOk, IfErr, OnErr};
+ghost use Rattle.std.specs.Prelude.{◌≡◌, ◌<◌, ◌^◌, length, map, true, IfOk, IfErr, OnErr};
 ghost use Rattle.std.specs.Cmp.Lexicographic.{pointwise};
 ghost use Rattle.std.specs.Str.{bytes_eq};
 ghost use Rattle.tl_model.specs.Causes.{Rose};
@@ -24,7 +24,7 @@ use tl_tree::{ContentsError, Tree};
 
 /// Why a backup brings nothing back.
 #[derive(Debug, Drop)]
-pub enum RestoreError {
+pub(crate) enum RestoreError {
     /// There is no such backup.
     NoBackup,
     /// The frame passes this limit.
@@ -58,7 +58,7 @@ impl From<AllocError> for RestoreError {
 
 /// An entry that a backup brings back, with its files.
 #[derive(Drop)]
-pub struct Restored {
+pub(crate) struct Restored {
     pub entry: Object,
     pub files: FileList,
 }
@@ -147,6 +147,7 @@ fn restored_from(
 ) -> Result<Restored, RestoreError>
     requires { length frame.entry < 2 ^ 32 }
     ensures restored { Restores entry_and_files result (restored_as name.now revision frame.files (reading.entry_of frame.entry)) }
+    ensures form { IfOk result (λ back. is_of name.now revision back.files back.entry ≡ true) }
     ensures quiet { IfErr result (λ e. e ≡ RestoreError.HostFault → ⊥) }
 {
     match read_object(alloc, frame.entry.as_slice()) {
@@ -172,6 +173,7 @@ fn restored_in(
     revision: u32,
 ) -> Result<Restored, RestoreError>
     ensures restored { Restores entry_and_files result (restored_from name.now revision (unpacked_by (frame_fault bytes.now) bytes.now)) }
+    ensures form { IfOk result (λ back. is_of name.now revision back.files back.entry ≡ true) }
     ensures quiet { IfErr result (λ e. e ≡ RestoreError.HostFault → ⊥) }
 {
     match unpacked(alloc, bytes) {
@@ -184,13 +186,14 @@ fn restored_in(
 ///
 /// `NoBackup` exactly where the file is absent; then `TooLarge` of `Frame`, `BadFrame`, and `FrameEntry` where the entry doesn't read, has
 /// another name or revision, or its own paths aren't the files'. `HostFault` comes only where the host's faults rose.
-pub fn read_backup<H: Host>(
+pub(crate) fn read_backup<H: Host>(
     alloc: Global,
     tree: &mut Tree<H>,
     name: &Name,
     revision: u32,
 ) -> Result<Restored, RestoreError>
     ensures restored { Told H.tells (Restores entry_and_files result (restored name.now revision (tree_in tree.old))) }
+    ensures form { IfOk result (λ back. is_of name.now revision back.files back.entry ≡ true) }
     ensures asked { IsAsked H.tells tree.old tree.new }
     ensures cause { IfErr result (IsRestoreCause tree.old tree.new) }
 {

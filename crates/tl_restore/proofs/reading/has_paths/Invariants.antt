@@ -1,7 +1,7 @@
 use Rattle.std.proofs.Common.{◌≡◌, drop, map}
 use Rattle.std.specs.Cmp.Lexicographic.{pointwise}
 use Rattle.std.specs.Str.{bytes_eq}
-use Rattle.tl_restore.proofs.Restoring.{path_in}
+use Rattle.tl_restore.proofs.ReadLaws.{path_in}
 use Rattle.tl_restore.proofs.reading.has_paths.Given as goal
 
 abbrev pub invariant-loop-place : goal.invariant-loop-place

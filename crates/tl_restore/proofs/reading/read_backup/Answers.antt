@@ -5,7 +5,7 @@ use Rattle.tl_backup.specs.Asked.{tree_in}
 use Rattle.tl_backup.specs.Files.{backup_path}
 use Rattle.tl_restore.specs.Restored.{Restores, bytes_in, entry_and_files, restored_from, restored_in, unpacked_by}
 use Rattle.tl_restore.specs.declared.reading.RestoreError.{RestoreError}
-use Rattle.tl_restore.proofs.Restoring.{bytes_pass}
+use Rattle.tl_restore.proofs.ReadLaws.{bytes_pass}
 use Rattle.tl_restore.proofs.reading.read_backup.Goals as goal
 
 pub returns-in-Ok-clause-restored : goal.returns-in-Ok-clause-restored

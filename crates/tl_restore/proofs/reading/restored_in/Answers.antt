@@ -4,7 +4,7 @@ use Rattle.tl_frame.specs.Scan.{frame_fault}
 use Rattle.tl_frame.specs.declared.whole.Frame.{Frame}
 use Rattle.tl_restore.specs.Restored.{Restores, entry_and_files, restored_from, unpacked_by}
 use Rattle.tl_restore.specs.declared.reading.RestoreError.{RestoreError}
-use Rattle.tl_restore.proofs.Restoring.{frame_passes}
+use Rattle.tl_restore.proofs.ReadLaws.{frame_passes}
 use Rattle.tl_restore.proofs.reading.restored_in.Goals as goal
 
 pub returns-in-Ok-clause-restored : goal.returns-in-Ok-clause-restored

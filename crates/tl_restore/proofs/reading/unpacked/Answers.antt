@@ -1,4 +1,4 @@
-use Rattle.tl_restore.proofs.Restoring.{unpacked_frame}
+use Rattle.tl_restore.proofs.ReadLaws.{unpacked_frame}
 use Rattle.tl_restore.proofs.reading.unpacked.Goals as goal
 
 pub returns-in-Ok-clause-frame : goal.returns-in-Ok-clause-frame

@@ -10,7 +10,7 @@ use Rattle.tl_command.proofs.Databases.{same_tree}
 use Rattle.tl_backups.specs.Faults.{refusal_of}
 use Rattle.tl_restore.specs.Listing.{backup_lines, said_backups}
 use Rattle.tl_restore.proofs.Lines.{listing_refused}
-use Rattle.tl_restore.proofs.listing.list_from.Goals as goal
+use Rattle.tl_restore.proofs.listing.say_backups.Goals as goal
 
 pub returns-in-Ok : goal.returns-in-Ok
 returns-in-Ok g c =
