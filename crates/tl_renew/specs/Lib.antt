@@ -1,0 +1,4 @@
+pub mod Sets
+pub mod Updated
+pub mod Unasked
+pub mod Updating
