@@ -1,0 +1,10 @@
+pub mod Finding
+pub mod Free
+pub mod Judging
+pub mod LeafLaws
+pub mod Listed
+pub mod MarksLaws
+pub mod Mastering
+pub mod NameWalk
+pub mod SourceOrder
+pub mod SourceLaws

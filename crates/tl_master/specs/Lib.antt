@@ -1,0 +1,5 @@
+pub mod Answers
+pub mod Listing
+pub mod Marked
+pub mod Masters
+pub mod Sources
