@@ -51,7 +51,8 @@ fn update_over<S: Shelf, H: Host>(
     shelf: &mut S,
     tree: Tree<H>,
 ) -> Acted<H>
-    ensures { Performs (S.tells && H.tells) H.seen (λ t. update_run names.now ask.now formats repositories.now (S.seen shelf.old).repositories t tree.db)
+    ensures { Performs (S.tells && H.tells) H.seen
+        (λ t. update_run names.now ask.now formats repositories.now (S.seen shelf.old).repositories t tree.db)
         0 tree.seen (counted_faults (S.seen shelf.old).faults) (counted_faults (S.seen shelf.new).faults) result.ending result.state }
 {
     match load_offer(alloc, repositories, shelf, tree) {
