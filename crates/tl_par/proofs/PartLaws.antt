@@ -1,6 +1,5 @@
 -- What parts hold, one behind the other.
-use Rattle.std.proofs.Common.{◌≡◌, ℕ, ◌<◌, suc, Bool, true, false, ◌&&◌, List, [], ◌∷◌, ◌++◌, ◌∙◌, refl, ap, sym, length, map, slice_index_or, is_ok, IfOk, OnOk, Result, Ok, Err, arith}
-use Rattle.std.proofs.lemmas.Grind.{common_steps}
+use Rattle.std.proofs.Common.{◌≡◌, ℕ, ◌<◌, suc, true, List, [], ◌∷◌, ◌++◌, ◌∙◌, refl, ap, sym, length, map, slice_index_or, is_ok, IfOk, OnOk, Result, Ok, Err, arith}
 use Rattle.std.proofs.lemmas.List.{map-append}
 use Rattle.std.specs.List.{flat_map, list_all}
 use denote.Ref.{Bor}
@@ -25,7 +24,7 @@ held_all view f [] (r ∷ parts) same given ok = grind arith
 held_all view f (p ∷ pieces) [] same given ok = grind arith
 held_all view f (p ∷ pieces) (Ok t ∷ parts) same given ok =
     let rest : flat_map (held view) parts ≡ map f (flat_map (λ piece. piece.now) pieces) =
-        held_all view f pieces parts (grind arith) (λ i q r lt. given (suc i) q r (grind arith)) ok in
+    held_all view f pieces parts (grind arith) (λ i q r lt. given (suc i) q r (grind arith)) ok in
     ap (λ l. l ++ flat_map (held view) parts) (given 0 p (Ok t) (grind arith)) ∙ ap (λ l. map f p.now ++ l) rest
     ∙ sym (map-append f p.now (flat_map (λ piece. piece.now) pieces))
 held_all view f (p ∷ pieces) (Err e ∷ parts) same given ok = grind arith

@@ -1,4 +1,4 @@
-use Rattle.std.proofs.Common.{◌≡◌, ◌<◌, ◌≤◌, ◌++◌, length, vec_len}
+use Rattle.std.proofs.Common.{◌≡◌, ◌<◌, ◌++◌, length, vec_len}
 use Rattle.std.specs.List.{flat_map}
 use Rattle.tl_par.proofs.parts.in_pieces.Given as goal
 
