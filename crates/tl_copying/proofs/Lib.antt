@@ -1,0 +1,4 @@
+pub mod OneLemmas
+pub mod ProgressLemmas
+pub mod RoundLemmas
+pub mod WorldLemmas
