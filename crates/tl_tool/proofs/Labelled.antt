@@ -16,9 +16,12 @@ use Rattle.tl_refusal.specs.declared.refusal.Refusal.TheVariants.{TooLarge}
 use Rattle.tl_command.specs.Runs.{AreLabelled, refused, over_bytes}
 use Rattle.tl_command.proofs.Limits.{labelled-over}
 use Rattle.tl_backups.proofs.BackupLabels.{labelled-backup}
+use Rattle.tl_install.proofs.RunLabels.{labelled-install}
 use Rattle.tl_packages.proofs.Labels.{labelled-remove}
+use Rattle.tl_restore.proofs.Labels.{labelled-restore}
 use Rattle.tl_publish.specs.Lsr.{lsr_run}
 use Rattle.tl_publish.proofs.RunLemmas.{labelled-lsr}
+use Rattle.tl_update.proofs.UpdateLabels.{labelled-update}
 use Rattle.tl_show.proofs.OpenLemmas.{labelled-info, labelled-search, labelled-candidates}
 use Rattle.tl_show.specs.Check.{check_run}
 use Rattle.tl_show.specs.Dump.{dump_run}
@@ -28,7 +31,8 @@ use Rattle.tl_offer.specs.Pinned.{over_pins}
 use Rattle.tl_settings.specs.Pinning.{pinning_run}
 use Rattle.tl_settings.proofs.Labels.{labelled-option}
 use Rattle.tl_settings.proofs.PinLabels.{labelled-pinning}
-use Rattle.tl_tool.specs.Commands.{program_fault, command_at, action_run, act_at, by_words, run_of}
+use Rattle.tl_sources.proofs.Labels.{labelled-expand}
+use Rattle.tl_tool.specs.Commands.{install_ask, update_ask, program_fault, command_at, action_run, act_at, by_words, run_of}
 
 -- the run of `which` makes no steps
 labelled-listed : (name : List ℕ) (read : Result (List (List ℕ)) ℕ) → AreLabelled (listed_run name read).events
@@ -53,8 +57,14 @@ labelled-action (actions.Which word) repositories formats outside tree = labelle
 labelled-action (actions.Info name) repositories formats outside tree = labelled-info repositories outside.repositories tree name
 labelled-action (actions.Search word) repositories formats outside tree = labelled-search repositories outside.repositories tree word
 labelled-action (actions.Candidates name) repositories formats outside tree = labelled-candidates repositories outside.repositories tree name
+labelled-action (actions.Install names no_depends no_depends_at_all reinstall) repositories formats outside tree =
+    labelled-install names (install_ask no_depends no_depends_at_all reinstall) formats repositories outside.repositories tree
+labelled-action (actions.Update names every no_auto_install no_auto_remove reinstall_forced) repositories formats outside tree =
+    labelled-update names (update_ask every no_auto_install no_auto_remove reinstall_forced) formats repositories outside.repositories tree
 labelled-action (actions.Remove names force) repositories formats outside tree = labelled-remove names force formats tree
 labelled-action (actions.Backup names every) repositories formats outside tree = labelled-backup names every tree
+labelled-action (actions.Restore name revision) repositories formats outside tree = labelled-restore name revision tree
+labelled-action (actions.Expand name) repositories formats outside tree = labelled-expand name outside.verdicts tree
 labelled-action actions.Lsr repositories formats outside tree = labelled-over (lsr_run tree) (database_text tree) (labelled-lsr tree)
 labelled-action _ repositories formats outside tree = tt
 

@@ -4,12 +4,14 @@ use Rattle.tl_model.specs.Volume.{Volume}
 use Rattle.tl_model.specs.Devices.{Outside}
 use Rattle.tl_tree.specs.Planted.{database_text}
 use Rattle.tl_action.specs.declared.action_name.ActionName.{ActionName}
-use Rattle.tl_action.specs.declared.action_name.ActionName.TheVariants.{DumpTlpdb, Info, Search, Candidates, Check, Remove, Backup, Setting, Pinning, Lsr, Which}
+use Rattle.tl_action.specs.declared.action_name.ActionName.TheVariants.{DumpTlpdb, Info, Search, Candidates, Check, Install, Update, Remove, Backup, Restore, Setting, Pinning, Expand, Lsr, Which}
 use Rattle.tl_action.specs.declared.command.Action.{Action}
 use Rattle.tl_action.specs.declared.command.Action.TheVariants as actions
 use Rattle.tl_action.specs.declared.command.Command.{Command}
 use Rattle.tl_action.specs.declared.command.Repository.{Repository}
 use Rattle.tl_action.specs.declared.table.OptionName.TheVariants.{Formats, Usermode}
+use Rattle.tl_bring.specs.declared.coming.InstallAsk.{InstallAsk}
+use Rattle.tl_renew.specs.declared.ask.UpdateAsk.{UpdateAsk}
 use Rattle.tl_words.specs.declared.faults.Fault.{Fault}
 use Rattle.tl_words.specs.Parts.{Part}
 use Rattle.tl_words.specs.Faults.{words_fault, forbidden_fault, program_parts, plains}
@@ -20,8 +22,10 @@ use Rattle.tl_refusal.specs.declared.refusal.Refusal.TheVariants.{BadWords, BadJ
 use Rattle.tl_command.specs.Runs.{Run, finished, refused, over_database}
 use Rattle.tl_command.specs.Whole.{journal_place}
 use Rattle.tl_backups.specs.Backing.{backup_run}
+use Rattle.tl_install.specs.Install.{install_run}
 use Rattle.tl_packages.specs.Remove.{remove_run}
 use Rattle.tl_publish.specs.Lsr.{lsr_run}
+use Rattle.tl_restore.specs.Restoring.{restore_run}
 use Rattle.tl_show.specs.Candidates.{candidates_run}
 use Rattle.tl_show.specs.Check.{check_run}
 use Rattle.tl_show.specs.Dump.{dump_run}
@@ -30,8 +34,10 @@ use Rattle.tl_show.specs.Opening.{over_offer}
 use Rattle.tl_show.specs.Search.{search_run}
 use Rattle.tl_show.specs.Which.{which_run}
 use Rattle.tl_offer.specs.Pinned.{over_pins}
+use Rattle.tl_update.specs.Update.{update_run}
 use Rattle.tl_settings.specs.Pinning.{pinning_run}
 use Rattle.tl_settings.specs.Settings.{option_run}
+use Rattle.tl_sources.specs.Expand.{expand_run}
 
 -- what a command says of the program's words: the root, and of their parts the repositories in order, the workers, 4 where none are
 -- given, the action with its options and operands, the folder of the user's tree, and whether formats are made
@@ -47,7 +53,7 @@ command_with root all name = record {
 
 -- the actions that the program carries out, and so are on
 abbrev pub built_actions : List ActionName
-built_actions = DumpTlpdb ∷ Info ∷ Search ∷ Candidates ∷ Check ∷ Remove ∷ Backup ∷ Setting ∷ Pinning ∷ Lsr ∷ Which ∷ []
+built_actions = DumpTlpdb ∷ Info ∷ Search ∷ Candidates ∷ Check ∷ Install ∷ Update ∷ Remove ∷ Backup ∷ Restore ∷ Setting ∷ Pinning ∷ Expand ∷ Lsr ∷ Which ∷ []
 
 -- the fault of words that ask for what no action of the program does: to change a user's tree
 abbrev pub user_tree_fault : List Part → Option Fault
@@ -61,6 +67,24 @@ program_fault words = or_else (words_fault built_actions words) (user_tree_fault
 abbrev pub command_at : List (List ℕ) → Option Command
 command_at words = option_map (command_with (first_word words) (program_parts words)) (first_action built_actions (plains (program_parts words)))
 
+-- how packages are asked to come by the words' options: what they depend on comes too, and so do their binary parts, unless they are left
+-- out; what is installed comes again where the words say so
+abbrev pub install_ask : Bool → Bool → Bool → InstallAsk
+install_ask no_depends no_depends_at_all reinstall = record {
+  depends = not no_depends;
+  parts = not no_depends_at_all;
+  reinstall = reinstall;
+}
+
+-- how packages are asked to be updated by the words' options
+abbrev pub update_ask : Bool → Bool → Bool → Bool → UpdateAsk
+update_ask every no_auto_install no_auto_remove reinstall_forced = record {
+  all = every;
+  auto_install = not no_auto_install;
+  auto_remove = not no_auto_remove;
+  reinstall_forced = reinstall_forced;
+}
+
 -- the run of an action with these repositories, and with formats or without; words never ask for one that isn't built
 abbrev pub action_run : Action → List Repository → Bool → Outside → Volume → Run
 action_run (actions.DumpTlpdb local) repositories formats outside tree = over_database dump_run (database_text tree)
@@ -68,10 +92,16 @@ action_run (actions.Info name) repositories formats outside tree = over_offer re
 action_run (actions.Search word) repositories formats outside tree = over_offer repositories outside.repositories (search_run word) tree
 action_run (actions.Candidates name) repositories formats outside tree = over_offer repositories outside.repositories (candidates_run name) tree
 action_run (actions.Check what) repositories formats outside tree = over_database (check_run what tree) (database_text tree)
+action_run (actions.Install names no_depends no_depends_at_all reinstall) repositories formats outside tree =
+    over_database (install_run names (install_ask no_depends no_depends_at_all reinstall) formats repositories outside.repositories tree) (database_text tree)
+action_run (actions.Update names every no_auto_install no_auto_remove reinstall_forced) repositories formats outside tree =
+    over_database (update_run names (update_ask every no_auto_install no_auto_remove reinstall_forced) formats repositories outside.repositories tree) (database_text tree)
 action_run (actions.Remove names force) repositories formats outside tree = over_database (remove_run names force formats tree) (database_text tree)
 action_run (actions.Backup names every) repositories formats outside tree = over_database (backup_run names every tree) (database_text tree)
+action_run (actions.Restore name revision) repositories formats outside tree = over_database (restore_run name revision tree) (database_text tree)
 action_run (actions.Setting option values) repositories formats outside tree = over_database (option_run option values tree) (database_text tree)
 action_run (actions.Pinning pins) repositories formats outside tree = over_database (λ entries. over_pins (pinning_run pins tree entries) tree) (database_text tree)
+action_run (actions.Expand name) repositories formats outside tree = over_database (expand_run name outside.verdicts tree) (database_text tree)
 action_run actions.Lsr repositories formats outside tree = over_database (lsr_run tree) (database_text tree)
 action_run (actions.Which word) repositories formats outside tree = over_database (λ _. which_run word tree) (database_text tree)
 action_run _ repositories formats outside tree = finished
@@ -108,6 +138,14 @@ reads_repositories (actions.Update names every no_auto_install no_auto_remove re
 reads_repositories actions.Mirror = true
 reads_repositories actions.Shell = true
 reads_repositories _ = false
+
+-- whether an action compiles patterns
+abbrev pub reads_patterns : Action → Bool
+reads_patterns (actions.Expand name) = true
+reads_patterns actions.Edit = true
+reads_patterns actions.Build = true
+reads_patterns actions.Shell = true
+reads_patterns _ = false
 
 -- whether an action reads the input
 abbrev pub reads_input : Action → Bool

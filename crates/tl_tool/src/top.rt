@@ -42,9 +42,15 @@ fn read_command(alloc: Global, words: &[Vec<u8>]) -> Result<Command, WordsError>
 }
 
 // Recovers the volume, carries a command out over its tree, and ends the run.
-fn start<H: Host, S: Shelf>(alloc: Global, command: Command, shelf: &mut S, host: H) -> (Ending, H)
+fn start<H: Host, S: Shelf>(
+    alloc: Global,
+    command: Command,
+    shelf: &mut S,
+    regexps: &mut Regexps,
+    host: H,
+) -> (Ending, H)
     requires { IsOn built_actions command.action }
-    ensures run { MakesRun S.tells H.tells command result.0 (H.seen host) (H.seen result.1) (S.seen shelf.old) }
+    ensures run { MakesRun S.tells H.tells command result.0 (H.seen host) (H.seen result.1) (S.seen shelf.old) regexps.new }
     ensures without { Told H.tells (stand (H.seen host).present.held ≡ None →
         OnlySays (refused (BadJournal (journal_place (H.seen host).present.held))) result.0 (H.seen host) (H.seen result.1)) }
     ensures shut { (input : Bool) → Told (tells_all command.action S.tells input H.tells)
@@ -53,7 +59,7 @@ fn start<H: Host, S: Shelf>(alloc: Global, command: Command, shelf: &mut S, host
     ensures words { IsWordless result.0 → ⊥ }
 {
     match begin(alloc, host) {
-        Ok(session) => end(act(alloc, command, shelf, session)),
+        Ok(session) => end(act(alloc, command, shelf, regexps, session)),
         Err(ended) => ended,
     }
 }
@@ -92,7 +98,7 @@ pub fn texlive<R: Threads + Sync, H: Host, S: Shelf, I: Source>(
         (faults_of (S.seen shelf.old) (I.seen input.old)) (faults_of (S.seen shelf.new) (I.seen input.new)) }
 {
     match read_command(alloc, words) {
-        Ok(command) => start(alloc, command, shelf, host),
+        Ok(command) => start(alloc, command, shelf, regexps, host),
         Err(WordsError::BadWords { at, kind }) => {
             refuse_at_once(alloc, Refusal::BadWords { at, kind }, host)
         }

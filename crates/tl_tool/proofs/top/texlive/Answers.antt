@@ -4,6 +4,7 @@ use Rattle.tl_journal_text.specs.Stand.{stand}
 use Rattle.tl_action.specs.Texts.{texts}
 use Rattle.tl_words.specs.declared.error.WordsError.{WordsError}
 use Rattle.tl_words.specs.Errors.{IsErrorOf}
+use Rattle.tl_auto.proofs.VerdictLemmas.{keeps_same}
 use Rattle.tl_command.specs.declared.ending.Ending.TheVariants.{NoMemory}
 use Rattle.tl_command.specs.Runs.{Run}
 use Rattle.tl_command.specs.Whole.{OnlySays, Runs}
@@ -19,12 +20,12 @@ use Rattle.tl_tool.proofs.top.texlive.Goals as goal
 pub returns-in-Ok-clause-run : goal.returns-in-Ok-clause-run
 returns-in-Ok-clause-run g c t tree stood =
     let words = texts c.args.words.now in
-    let outside = outside_of (g.S.Shelf.seen c.args.shelf.now) (g.I.Source.seen c.args.input.now) c.args.regexps.now in
+    let outside = outside_of (g.S.Shelf.seen c.args.shelf.now) (g.I.Source.seen c.args.input.now) c.start.new.regexps in
     let command = c.in-Ok.command in
     let read = c.in-Ok.ensures in
     subst (λ (r : Run). Runs r c.start.result.0 (g.H.Host.seen c.args.host) (g.H.Host.seen c.start.result.1) tree)
     (sym (run_of-command words command outside tree read.none (command_at-read words command read.root read.command)))
-    (c.start.ensures.run outside g.I.Source.tells refl (tells-command words command g.S.Shelf.tells g.I.Source.tells g.H.Host.tells read.none (command_at-read words command read.root read.command) t) tree stood)
+    (c.start.ensures.run outside g.I.Source.tells refl (keeps_same c.start.new.regexps.verdicts) (tells-command words command g.S.Shelf.tells g.I.Source.tells g.H.Host.tells read.none (command_at-read words command read.root read.command) t) tree stood)
 
 pub returns-in-Ok-clause-shut : goal.returns-in-Ok-clause-shut
 returns-in-Ok-clause-shut g c t some none carried =
