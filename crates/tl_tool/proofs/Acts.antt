@@ -71,6 +71,7 @@ over_shelf-run P (actions.Install names no_depends no_depends_at_all reinstall) 
     subst (λ volumes. P (λ tree. over_database (install_run names (install_ask no_depends no_depends_at_all reinstall) formats repositories volumes tree) (database_text tree))) (sym same) p
 over_shelf-run P (actions.Update names every no_auto_install no_auto_remove reinstall_forced) repositories formats outside old over same p =
     subst (λ volumes. P (λ tree. over_database (update_run names (update_ask every no_auto_install no_auto_remove reinstall_forced) formats repositories volumes tree) (database_text tree))) (sym same) p
+over_shelf-run P (actions.Expand name) repositories formats outside old over same p = absurd (cc)
 over_shelf-run P _ repositories formats outside old over same p = p
 
 -- a command that compiles patterns, and reads neither repositories nor the input
